@@ -1,0 +1,5 @@
+pub mod Class
+pub mod Decoding
+pub mod Reasons
+pub mod Text
+pub mod Walk
