@@ -1,2 +1,4 @@
 pub mod Below
+pub mod Ending
 pub mod Grown
+mod Pushed
