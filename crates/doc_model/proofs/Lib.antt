@@ -1,5 +1,8 @@
+mod AxisWalks
 pub mod Below
 pub mod Ending
+mod Filters
+mod WalkSteps
 pub mod Grown
 mod Pushed
 pub mod Runs

@@ -1,5 +1,5 @@
 -- An ascending list is the filter of all rows by its members.
-use Rattle.std.proofs.Common.{◌≡◌, refl, sym, ◌∙◌, ap, subst, ℕ, zero, suc, ◌+◌, ◌-◌, ◌<◌, ◌≤◌, Bool, true, false, ◌||◌, ◌&&◌, ◌==◌, eqb, cond, List, [], ◌∷◌, ◌++◌, arith}
+use Rattle.std.proofs.Common.{◌≡◌, refl, sym, ◌∙◌, ap, subst, ℕ, zero, suc, ◌+◌, ◌-◌, ◌<◌, ◌≤◌, Bool, true, false, ◌||◌, ◌==◌, eqb, cond, List, [], ◌∷◌, ◌++◌, arith}
 use Rattle.std.specs.List.{list_any, range_with_len}
 use Rattle.std.specs.Prelude.{filter}
 use Rattle.std.proofs.lemmas.Bool.Decides.{nat_tests}
@@ -7,10 +7,10 @@ use Rattle.std.proofs.lemmas.List.Folds.{list_any-append}
 use Rattle.std.proofs.lemmas.List.Elements.{filter-append}
 use Rattle.std.proofs.Common.{◌⊎◌, inl, inr, length, take, drop, get_or, nat_lt}
 use Rattle.std.proofs.Common.{length-drop, append_assoc, Result, Ok, Err}
-use Rattle.std.specs.Prelude.{OnOk, OnErr, is_ok, if◌then◌else◌, ◌≢◌, IsTrue}
+use Rattle.std.specs.Prelude.{OnErr, ◌≢◌, IsTrue}
 use Rattle.std.proofs.Math.Seq.{drop-cons, drop-length, take-length}
 use Rattle.std.proofs.lemmas.List.{take_more}
-use Rattle.doc_model.specs.RowLists.{has, Run, in_either, in_any, IsFront, EachIsRun, Follows, Taken, taken, taken_by}
+use Rattle.doc_model.specs.RowLists.{has, Run, in_either, in_any, IsFront, EachIsRun, Follows, taken, taken_by}
 
 pub run_le : (low high : ℕ) (xs : List ℕ) → Run low high xs → low ≤ high
 run_le low high [] r = r
@@ -315,7 +315,7 @@ nothing_collected n = sym (none_kept n 0)
 
 -- ---- what a refusal leaves
 
-range_split : (m k low : ℕ) → range_with_len low (m + k) ≡ range_with_len low m ++ range_with_len (low + m) k
+pub range_split : (m k low : ℕ) → range_with_len low (m + k) ≡ range_with_len low m ++ range_with_len (low + m) k
 range_split zero k low = let e : low ≡ low + 0 = omega arith in let z : 0 + k ≡ k = omega arith in ap (range_with_len low) z ∙ ap (λ v. range_with_len v k) e
 range_split (suc m) k low =
     let z : suc m + k ≡ suc (m + k) = omega arith in let e : low + 1 + m ≡ low + suc m = omega arith in

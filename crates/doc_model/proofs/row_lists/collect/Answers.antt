@@ -1,5 +1,4 @@
-use Rattle.std.proofs.Common.{◌≡◌, ◌∙◌, refl, ap, sym}
-use Rattle.doc_model.specs.RowLists as spec
+use Rattle.std.proofs.Common.{◌∙◌}
 use Rattle.doc_model.proofs.Runs as runs
 use Rattle.doc_model.proofs.row_lists.collect.Goals as goal
 

@@ -1,4 +1,3 @@
-use Rattle.std.proofs.Common.{get_or, length, ◌-◌, ◌<◌, arith}
 use Rattle.doc_model.proofs.Runs as runs
 use Rattle.doc_model.proofs.row_lists.follows.Goals as goal
 

@@ -1,4 +1,4 @@
-use Rattle.std.proofs.Common.{◌≡◌, ◌∙◌, refl, subst}
+use Rattle.std.proofs.Common.{◌∙◌, refl, subst}
 use Rattle.doc_model.specs.RowLists as spec
 use Rattle.doc_model.proofs.Runs as runs
 use Rattle.doc_model.proofs.row_lists.gather.Goals as goal

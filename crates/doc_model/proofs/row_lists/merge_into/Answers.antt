@@ -1,5 +1,4 @@
-use Rattle.std.specs.Prelude.{if◌then◌else◌, is_ok}
-use Rattle.std.proofs.Common.{◌≡◌, ◌++◌, ◌∷◌, [], drop, sym, ap, inl, inr, ◌∙◌}
+use Rattle.std.proofs.Common.{◌++◌, drop, ap, inl, inr, ◌∙◌}
 use Rattle.doc_model.proofs.Runs as runs
 use Rattle.doc_model.proofs.row_lists.merge_into.Goals as goal
 use Rattle.doc_model.proofs.row_lists.merge_into.Goals.{then-loop-i-test+else-j-b, else-loop-i-test}
