@@ -2,6 +2,7 @@ mod AxisWalks
 pub mod Below
 pub mod Ending
 mod Filters
+mod Texts
 mod WalkSteps
 pub mod Grown
 mod Pushed
