@@ -6,5 +6,5 @@ mod laws;
 mod term;
 
 pub use expression::{Expr, Func, Infix, Operand, Start, Step};
-pub use laws::{one_expression, one_reading};
+pub use laws::{found_exactly, one_expression, one_reading};
 pub use term::{NodeType, Term};
