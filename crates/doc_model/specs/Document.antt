@@ -1,5 +1,5 @@
 -- Documents: lists of rows in document order, after XPath 1.0, section 5.
-use Rattle.std.specs.Prelude.{◌≡◌, ◌≢◌, ℕ, zero, suc, ◌+◌, ◌-◌, ◌<◌, ◌≤◌, Bool, true, false, ◌&&◌, ◌||◌, ◌==◌, nat_lt, not, List, [], ◌∷◌, length, slice_index_or, IsTrue, ◌⊎◌}
+use Rattle.std.specs.Prelude.{◌≡◌, ◌≢◌, ℕ, zero, suc, ◌-◌, ◌<◌, ◌≤◌, Bool, true, false, ◌&&◌, ◌||◌, ◌==◌, nat_lt, List, [], length, slice_index_or, IsTrue, ◌⊎◌}
 use Rattle.std.specs.List.{range_with_len}
 use Rattle.doc_model.specs.declared.Kind.{Kind}
 use Rattle.doc_model.specs.declared.Kind.TheVariants.{Root, Element, Attribute, Text, Comment}
@@ -65,6 +65,7 @@ below_within zero doc x y = false
 below_within (suc steps) doc x y = nat_lt 0 y && (((row doc y).parent == x) || below_within steps doc x (row doc y).parent)
 
 -- y is below x: x is reached from y by taking the parent once or more. Parents are smaller, so y steps are enough.
+-- It speaks of rows: a number past the last row's counts as below row 0.
 abbrev pub below : Document → ℕ → ℕ → Bool
 below doc x y = below_within y doc x y
 

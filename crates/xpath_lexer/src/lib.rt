@@ -1,0 +1,6 @@
+//! XPath text into tokens.
+#![tactic(auto)]
+
+mod token;
+
+pub use token::{XKind, XTok};
