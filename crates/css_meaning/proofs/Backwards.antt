@@ -6,6 +6,7 @@ use Rattle.std.specs.List.{range_with_len}
 use mathlib.Core.List.{reverse_aux}
 use Rattle.std.specs.List.{list_any, AllByRecursion}
 use Rattle.doc_model.specs.Document.{Document, rows, row, below, below_within, IsDocument, IsRow}
+use Rattle.doc_model.proofs.Below.{small, root_above}
 use Rattle.css_meaning.specs.declared.selector.Dialect.{Dialect}
 use Rattle.css_meaning.specs.declared.selector.Part.{Part}
 use Rattle.css_meaning.specs.Matching.{leads, reaches_by, matches_back, matches_by, linked, holds}
@@ -36,37 +37,17 @@ module _ (doc : Document) (d : Dialect) where
           ∙ Tests.any_and _ (leads doc d ps y e) (rows doc)
           ∙ Tests.any_same _ _ (λ x. Tests.turned (holds doc d p y) (linked doc p.link x y) (matches_back doc d (q ∷ qs) x) (leads doc d ps y e)) (rows doc)
 
-  -- every row but row 0 is below row 0
-  below_root : IsDocument doc → (n x : ℕ) → x ≤ n → 0 < x → x < length doc → below_within n doc 0 x ≡ true
-  unfolding below_within
-  below_root h zero x le pos lt = absurd (omega arith)
-  below_root h (suc n) x le pos lt =
-      let fewer : (row doc x).parent < x = (h.rest x pos lt).parent in
-      let here : ltb 0 x ≡ true = lt-ltb 0 x pos in
-      ap (λ b. b && (eqb (row doc x).parent 0 || below_within n doc 0 (row doc x).parent)) here
-      ∙ parent_case (row doc x).parent (omega arith) (omega arith) (λ y a b c. below_root h n y a b c)
-    where
-      parent_case : (p : ℕ) → p ≤ n → p < length doc → ((y : ℕ) → y ≤ n → 0 < y → y < length doc → below_within n doc 0 y ≡ true)
-          → (eqb p 0 || below_within n doc 0 p) ≡ true
-      parent_case zero le lt further = refl
-      parent_case (suc m) le lt further =
-          let positive : 0 < suc m = omega arith in
-          ap (λ b. eqb (suc m) 0 || b) (further (suc m) le positive lt) ∙ Tests.or_true (eqb (suc m) 0)
-
-  root_or_below : IsDocument doc → (y : ℕ) → y < length doc → (eqb y 0 || below doc 0 y) ≡ true
-  root_or_below h zero lt = refl
-  root_or_below h (suc m) lt =
-      let positive : 0 < suc m = omega arith in
-      let all : suc m ≤ suc m = omega arith in
-      ap (λ b. eqb (suc m) 0 || b) (below_root h (suc m) (suc m) all positive lt) ∙ Tests.or_true (eqb (suc m) 0)
+  root_or_below : IsDocument doc → (y : ℕ) → (eqb y 0 || below doc 0 y) ≡ true
+  root_or_below h zero = refl
+  root_or_below h (suc m) = ap (λ b. eqb (suc m) 0 || b) (root_above doc (suc m) (small doc h) (omega arith)) ∙ Tests.or_true (eqb (suc m) 0)
 
   from_first : IsDocument doc → (p : Part) (ps : List Part) (e : ℕ) → is_in (rows doc) e ≡ true
       → reaches_by doc d (p ∷ ps) 0 e ≡ matches_by doc d (p ∷ ps) e
   unfolding reaches_by matches_back
-  from_first h p ps e in_rows = Tests.any_among _ _ (rows doc) (λ y m. at y m) ∙ sym (back ps p [] e in_rows)
+  from_first h p ps e in_rows = Tests.any_same _ _ at (rows doc) ∙ sym (back ps p [] e in_rows)
     where
-      at : (y : ℕ) → is_in (rows doc) y ≡ true → ((eqb y 0 || below doc 0 y) && (holds doc d p y && leads doc d ps y e)) ≡ (holds doc d p y && leads doc d ps y e)
-      at y m = ap (λ b. b && (holds doc d p y && leads doc d ps y e)) (root_or_below h y (row_within doc y m))
+      at : (y : ℕ) → ((eqb y 0 || below doc 0 y) && (holds doc d p y && leads doc d ps y e)) ≡ (holds doc d p y && leads doc d ps y e)
+      at y = ap (λ b. b && (holds doc d p y && leads doc d ps y e)) (root_or_below h y)
 
   by_parts : IsDocument doc → (parts : List Part) (e : ℕ) → e < length doc → reaches_by doc d parts 0 e ≡ matches_by doc d parts e
   unfolding reaches_by matches_back
