@@ -1,5 +1,6 @@
-pub mod Names
+pub mod PlainNames
 pub mod Pieces
+pub mod Pushes
 pub mod Readings
 pub mod ReadBack
 pub mod Rooms
