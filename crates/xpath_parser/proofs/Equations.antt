@@ -4,16 +4,18 @@ use Rattle.std.specs.Prelude.{filter}
 use Rattle.std.specs.List.{list_any, list_all}
 use Rattle.doc_model.specs.Document.{Document, rows}
 use Rattle.doc_model.specs.Axes.{axis_list}
+use Rattle.doc_model.specs.declared.Axis.{Axis}
+use Rattle.doc_model.specs.declared.NodeTest.{NodeTest}
 use Rattle.xpath_parser.specs.declared.expression.Func.{Func}
 use Rattle.xpath_parser.specs.declared.expression.Infix.{Infix}
 use Rattle.xpath_parser.specs.declared.expression.Expr.{Expr}
 use Rattle.xpath_parser.specs.declared.expression.Expr.TheVariants as e
 use Rattle.xpath_parser.specs.declared.expression.Expr.TheOpen as open_
-use Rattle.xpath_parser.specs.declared.expression.Expr.TheFolds.{fold-roll-Expr, fold_out-Step, fold-roll-Start, fold_out-Operand}
+use Rattle.xpath_parser.specs.declared.expression.Expr.TheFolds.{fold-roll-Expr, fold-roll-Step, fold_out-Step, fold-roll-Start, fold_out-Operand}
 use Rattle.xpath_parser.specs.declared.expression.Expr.TheViews.{rolls-Here, rolls-Root, rolls-From}
 use Rattle.xpath_parser.specs.declared.expression.Start.{Start}
 use Rattle.xpath_parser.specs.declared.expression.Start.TheVariants.{Here, Root, From}
-use Rattle.xpath_parser.specs.declared.expression.Step.{Step, out-Step}
+use Rattle.xpath_parser.specs.declared.expression.Step.{Step, out-Step, roll-Step}
 use Rattle.xpath_parser.specs.declared.expression.Operand.{Operand}
 use Rattle.xpath_values.specs.declared.value.Value.{Value}
 use Rattle.xpath_values.specs.declared.value.Value.TheVariants.{Nodes, Num, Str, Bool as Truth}
@@ -107,3 +109,7 @@ module _ (doc : Document) where
   pub at_step : (s : Step) (x : ℕ) → walk_of doc s x ≡ kept (map (denote doc) (out-Step s).predicates) (axis_list doc x (out-Step s).axis (out-Step s).test)
   unfolding walk_of denote
   at_step s x = ap (λ m. m x) (fold_out-Step d.Meaning (d.FromStart doc) (d.Arm doc) d.Walk (d.expr_step doc) (d.start_step doc) (d.operand_step doc) (d.walk_step doc) s)
+
+  pub at_made : (a : Axis) (t : NodeTest) (es : List Expr) (x : ℕ) → walk_of doc (roll-Step (record { axis = a; test = t; predicates = es })) x ≡ kept (map (denote doc) es) (axis_list doc x a t)
+  unfolding walk_of denote start_of arm_of
+  at_made a t es x = ap (λ m. m x) (fold-roll-Step d.Meaning (d.FromStart doc) (d.Arm doc) d.Walk (d.expr_step doc) (d.start_step doc) (d.operand_step doc) (d.walk_step doc) (record { axis = a; test = t; predicates = es }))
