@@ -5,13 +5,13 @@ use Rattle.doc_model.specs.declared.Kind.{Kind}
 use Rattle.doc_model.specs.declared.Kind.TheVariants.{Root, Element, Attribute, Text, Comment}
 use Rattle.doc_model.specs.declared.Axis.TheVariants as axis
 use Rattle.doc_model.specs.Document.{Document, row, is_element, is_attribute, is_element_kind, is_attribute_kind, is_parent, below}
-use Rattle.doc_model.specs.Axes.{on_axis, passes}
+use Rattle.doc_model.specs.Axes.{on_axis, is_principal}
 use Rattle.css_meaning.specs.declared.selector.Dialect.{Dialect}
 use Rattle.css_meaning.specs.declared.selector.Link.{Link}
 use Rattle.css_meaning.specs.declared.selector.Link.TheVariants as link
 use Rattle.css_meaning.specs.Matching.{has_name, linked}
 use Rattle.css_meaning.proofs.ListTests as lists
-use Rattle.css_translate.specs.Expression.{axis_of, node_test}
+use Rattle.css_translate.specs.Expression.{axis_of}
 
 -- how the row of a part stands to the one before it: the first part's is the context row or below it
 abbrev pub near : Document → Link → ℕ → ℕ → Bool
@@ -45,29 +45,12 @@ axis_descendant doc x y h = descends _ (below doc x y) (is_no_attribute doc y h)
 pub axis_child : (doc : Document) (x y : ℕ) → is_element doc y ≡ true → on_axis doc axis.Child x y ≡ linked doc link.Child x y
 axis_child doc x y h = descends _ (is_parent doc x y) (is_no_attribute doc y h)
 
--- the name test of a part asks for an element of its name
-pub passes_child : (doc : Document) (d : Dialect) (el : Option (List ℕ)) (y : ℕ) → passes doc axis.Child (node_test d el) y ≡ (is_element doc y && has_name doc d el y)
-passes_child doc d None y = sym (lists.and_true (is_element doc y))
-passes_child doc d (Some n) y = refl
-
-pub passes_descendant : (doc : Document) (d : Dialect) (el : Option (List ℕ)) (y : ℕ) → passes doc axis.Descendant (node_test d el) y ≡ (is_element doc y && has_name doc d el y)
-passes_descendant doc d None y = sym (lists.and_true (is_element doc y))
-passes_descendant doc d (Some n) y = refl
-
-pub passes_near : (doc : Document) (d : Dialect) (el : Option (List ℕ)) (y : ℕ) → passes doc axis.DescendantOrSelf (node_test d el) y ≡ (is_element doc y && has_name doc d el y)
-passes_near doc d None y = sym (lists.and_true (is_element doc y))
-passes_near doc d (Some n) y = refl
-
-pub passes_later : (doc : Document) (d : Dialect) (el : Option (List ℕ)) (y : ℕ) → passes doc axis.FollowingSibling (node_test d el) y ≡ (is_element doc y && has_name doc d el y)
-passes_later doc d None y = sym (lists.and_true (is_element doc y))
-passes_later doc d (Some n) y = refl
-
-pub passes_by : (doc : Document) (d : Dialect) (l : Link) (el : Option (List ℕ)) (y : ℕ) → passes doc (axis_of l) (node_test d el) y ≡ (is_element doc y && has_name doc d el y)
-passes_by doc d link.First el y = passes_near doc d el y
-passes_by doc d link.Descendant el y = passes_descendant doc d el y
-passes_by doc d link.Child el y = passes_child doc d el y
-passes_by doc d link.Next el y = passes_later doc d el y
-passes_by doc d link.Later el y = passes_later doc d el y
+pub principal_by : (doc : Document) (l : Link) (y : ℕ) → is_principal (axis_of l) doc y ≡ is_element doc y
+principal_by doc link.First y = refl
+principal_by doc link.Descendant y = refl
+principal_by doc link.Child y = refl
+principal_by doc link.Next y = refl
+principal_by doc link.Later y = refl
 
 -- ---- element siblings
 

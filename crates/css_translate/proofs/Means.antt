@@ -1,12 +1,16 @@
 -- What the expression of a selector denotes: the rows that the selector answers.
-use Rattle.std.proofs.Common.{◌≡◌, refl, ℕ, Bool, true, false, ◌&&◌, ◌||◌, eqb, List, [], ◌∷◌, ap, sym, ◌∙◌, filter, map, subst}
+use Rattle.std.proofs.Common.{◌≡◌, refl, ℕ, Bool, true, false, ◌&&◌, ◌||◌, not, eqb, List, [], ◌∷◌, ap, sym, ◌∙◌, filter, map, subst}
 use Rattle.std.specs.Prelude.{◌≢◌}
 use Rattle.std.specs.List.{list_any, AllByRecursion}
 use Rattle.std.proofs.lemmas.List.{map-append}
 use Rattle.std.proofs.lemmas.Bool.{and_parts, eqb-true}
 use Rattle.doc_model.specs.declared.Axis.{Axis}
 use Rattle.doc_model.specs.declared.NodeTest.{NodeTest}
-use Rattle.doc_model.specs.Document.{Document, rows, is_element, below}
+use Rattle.doc_model.specs.declared.Kind.{Kind}
+use Rattle.doc_model.specs.declared.Kind.TheVariants.{Root, Element, Attribute, Text, Comment}
+use Rattle.doc_model.specs.declared.Axis.TheVariants as axis
+use Rattle.doc_model.specs.declared.NodeTest.TheVariants as node
+use Rattle.doc_model.specs.Document.{Document, row, rows, is_element, is_attribute, is_text, is_attribute_kind, is_text_kind, is_parent, below}
 use Rattle.doc_model.specs.Axes.{on_axis, passes}
 use Rattle.css_meaning.specs.declared.selector.Dialect.{Dialect}
 use Rattle.css_meaning.specs.declared.selector.Link.{Link}
@@ -28,10 +32,12 @@ use Rattle.xpath_parser.specs.Functions.{Context}
 use Rattle.xpath_parser.specs.Denote.{Walk, has, path, rows_in, denote, walk_of}
 use Rattle.xpath_parser.proofs.Equations.{at_path, at_here, at_union}
 use Rattle.css_translate.specs.Expression.{part_step, tail_steps, selector_steps, selector_expression, expression}
+use Rattle.css_translate.specs.Predicates.{step, attribute_step}
 use Rattle.css_translate.proofs.Links.{near}
 use Rattle.css_translate.proofs.Paths as paths
 use Rattle.css_translate.proofs.Paths.{chain, path_append, path_chain, path_rows, one_step, stays_in, only_one, in_rows_in}
-use Rattle.css_translate.proofs.PathsKept.{Keep, step_has}
+use Rattle.css_translate.proofs.PathsKept.{Keep, keep_none, step_has}
+use Rattle.css_translate.proofs.MeansNames.{attribute_walk}
 
 -- `row` is where the expression is evaluated, alone
 abbrev pub at_row : ℕ → Context
@@ -63,14 +69,14 @@ module _ (doc : Document) (d : Dialect) where
 
   -- the step of a part, of its axis, its node test and its predicates
   pub step_gives : (kind : ℕ → Bool) (p : Part) (a : Axis) (t : NodeTest) (es : List Expr) (q : ℕ → Bool)
-      → part_step d p ≡ roll-Step (record { axis = a; test = t; predicates = es })
+      → part_step d p ≡ step a t es
       → ((y : ℕ) → passes doc a t y ≡ true → is_element doc y ≡ true)
-      → Keep doc (is_element doc) es q
+      → Keep doc (passes doc a t) es q
       → ((y : ℕ) → (passes doc a t y && q y) ≡ holds doc d p y)
       → ((x y : ℕ) → kind x ≡ true → is_element doc y ≡ true → on_axis doc a x y ≡ near doc p.link x y)
       → StepGives kind p
   step_gives kind p a t es q made element keep fits same x y is among =
-      ap (λ s. has y (walk_of doc s x)) made ∙ step_has doc (is_element doc) a t es q x y element keep among
+      ap (λ s. has y (walk_of doc s x)) made ∙ step_has doc (passes doc a t) a t es q x y (λ z h i. i) keep among
       ∙ regroup (on_axis doc a x y) (near doc p.link x y) (is_element doc y) (passes doc a t y) (q y) (holds doc d p y) (element y) (same x y is) (fits y)
 
   -- ---- parts
@@ -162,6 +168,30 @@ module _ (doc : Document) (d : Dialect) where
       guarded true a b h = h refl
       guarded false a b h = refl
 
+  text_test : (a p t : Bool) → (t ≡ true → a ≡ true) → (true && ((a && p) && t)) ≡ (t && p)
+  text_test a p true h = lists.and_true (a && p) ∙ ap (λ b. b && p) (h refl)
+  text_test a p false h = lists.and_false (a && p)
+
+  text_no_attribute : (k : Kind) → is_text_kind k ≡ true → not (is_attribute_kind k) ≡ true
+  text_no_attribute Root h = refl
+  text_no_attribute Element h = refl
+  text_no_attribute Attribute h = cc
+  text_no_attribute Text h = refl
+  text_no_attribute Comment h = refl
+
+  pub text_tail : TailGives tail.Text
+  text_tail = one_tail tail.Text (step axis.Child node.Text []) refl (λ x y element among.
+      step_has doc (λ z. true) axis.Child node.Text [] (λ z. true) x y (λ z h i. refl) (keep_none doc (λ z. true)) among
+      ∙ text_test (not (is_attribute doc y)) (is_parent doc x y) (is_text doc y) (text_no_attribute (row doc y).kind))
+
+  pub attribute_tail : (n : List ℕ) → TailGives (tail.Attr n)
+  attribute_tail n = one_tail (tail.Attr n) (attribute_step d n) refl (λ x y element among. attribute_walk doc d n x y among)
+
+  pub any_tail : (t : Tail) → TailGives t
+  any_tail tail.Element = element_tail
+  any_tail tail.Text = text_tail
+  any_tail (tail.Attr n) = attribute_tail n
+
   -- ---- selectors
 
   leads_element : (ps : List Part) (x e : ℕ) → is_element doc x ≡ true → leads doc d ps x e ≡ true → is_element doc e ≡ true
@@ -181,16 +211,15 @@ module _ (doc : Document) (d : Dialect) where
       let more : (holds doc d p w.0 ≡ true) × (leads doc d ps w.0 e ≡ true) = and_parts _ _ (and_parts ((eqb w.0 c) || below doc c w.0) _ w.2).1 in
       leads_element ps w.0 e (and_parts (is_element doc w.0) _ more.0).0 more.1
 
-  pub record SelectorGives (s : Selector) : Type 0 where
-    pub parts : AllGive s.parts
-    pub tail : TailGives s.tail
+  abbrev pub SelectorGives : Selector → Type 0
+  SelectorGives s = AllGive s.parts
 
   pub selector_rows : (s : Selector) (c : ℕ) → SelectorGives s → path doc (c ∷ []) (map (walk_of doc) (selector_steps d s)) ≡ filter (λ r. answered doc d s c r) (rows doc)
   selector_rows s c h =
       ap (path doc (c ∷ [])) (map-append (walk_of doc) (map (part_step d) s.parts) (tail_steps d s.tail))
       ∙ path_append doc (c ∷ []) (map (walk_of doc) (map (part_step d) s.parts)) (map (walk_of doc) (tail_steps d s.tail))
-      ∙ ap (λ xs. path doc xs (map (walk_of doc) (tail_steps d s.tail))) (parts_rows s.parts c h.parts)
-      ∙ h.tail (λ e. reaches_by doc d s.parts c e) (reaches_element s.parts c)
+      ∙ ap (λ xs. path doc xs (map (walk_of doc) (tail_steps d s.tail))) (parts_rows s.parts c h)
+      ∙ any_tail s.tail (λ e. reaches_by doc d s.parts c e) (reaches_element s.parts c)
 
   pub denote_selector : (s : Selector) (c : Context) → SelectorGives s → denote doc (selector_expression d s) c ≡ Nodes (filter (λ r. answered doc d s c.row r) (rows doc))
   denote_selector s c h =

@@ -80,20 +80,32 @@ module _ (doc : Document) where
     pub keep_one : (e : Expr) (p : ℕ → Bool) → ((x : ℕ) → kind x ≡ true → Is e x (p x)) → Keep (e ∷ []) p
     keep_one e p is xs of_kind = kept_from_filter (denote doc e) p (length xs) 1 xs (λ x i at. is x (of_kind x i) at (length xs))
 
-    pub keep_both : (es fs : List Expr) (p q : ℕ → Bool) → Keep es p → Keep fs q → Keep (es ++ fs) (λ y. p y && q y)
-    keep_both es fs p q k l xs of_kind =
-        ap (λ ms. kept ms xs) (map-append (denote doc) es fs) ∙ kept_append (map (denote doc) es) (map (denote doc) fs) xs
-        ∙ ap (kept (map (denote doc) fs)) (k xs of_kind)
-        ∙ l (filter p xs) (λ x i. of_kind x (and_parts (p x) _ (sym (lists.in_filter p xs x) ∙ i)).1) ∙ filter_twice p q xs
-
     pub keep_same : (es : List Expr) (p q : ℕ → Bool) → ((x : ℕ) → kind x ≡ true → p x ≡ q x) → Keep es p → Keep es q
     keep_same es p q same k xs of_kind = k xs of_kind ∙ lists.filter_among p q xs (λ x i. same x (of_kind x i))
 
     -- what a step gives from a row: on its axis, of its node test, and of the brackets
-    pub step_has : (a : Axis) (t : NodeTest) (es : List Expr) (p : ℕ → Bool) (x y : ℕ) → ((z : ℕ) → passes doc a t z ≡ true → kind z ≡ true) → Keep es p
+    pub step_has : (a : Axis) (t : NodeTest) (es : List Expr) (p : ℕ → Bool) (x y : ℕ) → ((z : ℕ) → on_axis doc a x z ≡ true → passes doc a t z ≡ true → kind z ≡ true) → Keep es p
         → has y (rows doc) ≡ true
         → has y (walk_of doc (roll-Step (record { axis = a; test = t; predicates = es })) x) ≡ (p y && (on_axis doc a x y && passes doc a t y))
     step_has a t es p x y of_kind k among =
-        ap (has y) (at_made doc a t es x ∙ k (axis_list doc x a t) (λ z i. of_kind z (and_parts (on_axis doc a x z) _ (and_parts _ (has z (rows doc)) (sym (in_axis a t x z) ∙ i)).0).1))
+        ap (has y) (at_made doc a t es x ∙ k (axis_list doc x a t) (λ z i.
+        let both : (on_axis doc a x z ≡ true) × (passes doc a t z ≡ true) = and_parts (on_axis doc a x z) _ (and_parts _ (has z (rows doc)) (sym (in_axis a t x z) ∙ i)).0 in
+        of_kind z both.0 both.1))
         ∙ lists.in_filter p (axis_list doc x a t) y
         ∙ ap (λ b. p y && b) (in_axis a t x y ∙ ap (λ b. (on_axis doc a x y && passes doc a t y) && b) among ∙ lists.and_true (on_axis doc a x y && passes doc a t y))
+
+  -- predicates and more of them, which look at what the first keep
+  pub keep_then : (kind further : ℕ → Bool) (es fs : List Expr) (p q : ℕ → Bool) → Keep kind es p → Keep further fs q
+      → ((x : ℕ) → kind x ≡ true → p x ≡ true → further x ≡ true) → Keep kind (es ++ fs) (λ y. p y && q y)
+  keep_then kind further es fs p q k l narrows xs of_kind =
+      ap (λ ms. kept ms xs) (map-append (denote doc) es fs) ∙ kept_append (map (denote doc) es) (map (denote doc) fs) xs
+      ∙ ap (kept (map (denote doc) fs)) (k xs of_kind)
+      ∙ l (filter p xs) (λ x i. let both : (p x ≡ true) × (has x xs ≡ true) = and_parts (p x) _ (sym (lists.in_filter p xs x) ∙ i) in narrows x (of_kind x both.1) both.0)
+      ∙ filter_twice p q xs
+
+  pub keep_both : (kind : ℕ → Bool) (es fs : List Expr) (p q : ℕ → Bool) → Keep kind es p → Keep kind fs q → Keep kind (es ++ fs) (λ y. p y && q y)
+  keep_both kind es fs p q k l = keep_then kind kind es fs p q k l (λ x h i. h)
+
+  -- what holds of fewer rows
+  pub keep_within : (kind fewer : ℕ → Bool) (es : List Expr) (p : ℕ → Bool) → ((x : ℕ) → fewer x ≡ true → kind x ≡ true) → Keep kind es p → Keep fewer es p
+  keep_within kind fewer es p within k xs of_kind = k xs (λ x i. within x (of_kind x i))

@@ -11,19 +11,19 @@ use Rattle.xpath_parser.specs.declared.expression.Infix.{Infix}
 use Rattle.xpath_parser.specs.declared.expression.Expr.{Expr}
 use Rattle.xpath_parser.specs.declared.expression.Expr.TheVariants as e
 use Rattle.xpath_parser.specs.declared.expression.Expr.TheOpen as open_
-use Rattle.xpath_parser.specs.declared.expression.Expr.TheFolds.{fold-roll-Expr, fold-roll-Step, fold_out-Step, fold-roll-Start, fold_out-Operand}
+use Rattle.xpath_parser.specs.declared.expression.Expr.TheFolds.{fold-roll-Expr, fold-roll-Step, fold_out-Step, fold-roll-Start, fold_out-Operand, fold-roll-Operand}
 use Rattle.xpath_parser.specs.declared.expression.Expr.TheViews.{rolls-Here, rolls-Root, rolls-From}
 use Rattle.xpath_parser.specs.declared.expression.Start.{Start}
 use Rattle.xpath_parser.specs.declared.expression.Start.TheVariants.{Here, Root, From}
 use Rattle.xpath_parser.specs.declared.expression.Step.{Step, out-Step, roll-Step}
-use Rattle.xpath_parser.specs.declared.expression.Operand.{Operand}
+use Rattle.xpath_parser.specs.declared.expression.Operand.{Operand, out-Operand, roll-Operand}
 use Rattle.xpath_values.specs.declared.value.Value.{Value}
 use Rattle.xpath_values.specs.declared.value.Value.TheVariants.{Nodes, Num, Str, Bool as Truth}
 use Rattle.xpath_values.specs.Numbers.{whole}
 use Rattle.xpath_parser.specs.Conversions.{rows_of, truth_of, number_of}
 use Rattle.xpath_parser.specs.Functions.{Context, called}
 use Rattle.xpath_parser.specs.Denote as d
-use Rattle.xpath_parser.specs.Denote.{denote, walk_of, start_of, arm_of, arm_at, kept, path, rows_in, joined, has, Meaning, signed}
+use Rattle.xpath_parser.specs.Denote.{denote, walk_of, start_of, arm_of, arm_at, kept, path, rows_in, joined, applied, has, Meaning, signed}
 
 any_map : {A B : Type 0} (g : A → B) (t : B → Bool) (xs : List A) → list_any t (map g xs) ≡ list_any (λ x. t (g x)) xs
 any_map g t [] = refl
@@ -113,3 +113,9 @@ module _ (doc : Document) where
   pub at_made : (a : Axis) (t : NodeTest) (es : List Expr) (x : ℕ) → walk_of doc (roll-Step (record { axis = a; test = t; predicates = es })) x ≡ kept (map (denote doc) es) (axis_list doc x a t)
   unfolding walk_of denote start_of arm_of
   at_made a t es x = ap (λ m. m x) (fold-roll-Step d.Meaning (d.FromStart doc) (d.Arm doc) d.Walk (d.expr_step doc) (d.start_step doc) (d.operand_step doc) (d.walk_step doc) (record { axis = a; test = t; predicates = es }))
+
+  pub at_joined_one : (a b : Expr) (op : Infix) (c : Context) → denote doc (e.Joined a (roll-Operand (record { op = op; value = b }) ∷ [])) c ≡ applied doc op (denote doc a c) (denote doc b c)
+  unfolding denote walk_of start_of arm_of
+  at_joined_one a b op c = ap (λ x. denote doc x c) (sym (e.rolls-Joined a (roll-Operand (record { op = op; value = b }) ∷ [])))
+      ∙ ap (λ m. m c) (fold-roll-Expr d.Meaning (d.FromStart doc) (d.Arm doc) d.Walk (d.expr_step doc) (d.start_step doc) (d.operand_step doc) (d.walk_step doc) (open_.Joined a (roll-Operand (record { op = op; value = b }) ∷ [])))
+      ∙ ap (λ o. applied doc o.0 (denote doc a c) (o.1 c)) (fold-roll-Operand d.Meaning (d.FromStart doc) (d.Arm doc) d.Walk (d.expr_step doc) (d.start_step doc) (d.operand_step doc) (d.walk_step doc) (record { op = op; value = b }))
