@@ -1,0 +1,9 @@
+pub mod Conditions
+pub mod Expression
+pub mod Literals
+pub mod Names
+pub mod Plain
+pub mod Predicates
+pub mod Printed
+pub mod Promise
+pub mod Simples

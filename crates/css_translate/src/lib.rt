@@ -1,0 +1,2 @@
+//! Selectors printed as XPath.
+#![tactic(auto)]
