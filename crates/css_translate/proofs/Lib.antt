@@ -1,6 +1,9 @@
 pub mod Links
+pub mod LinksNext
 pub mod Means
 pub mod MeansNames
+pub mod MeansParts
+pub mod MeansPlain
 pub mod MeansValues
 pub mod Paths
 pub mod PathsKept

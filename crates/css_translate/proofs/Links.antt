@@ -1,15 +1,14 @@
 -- What each link relates, and the axis of its step.
-use Rattle.std.proofs.Common.{◌≡◌, refl, ℕ, Bool, true, false, ◌&&◌, ◌||◌, not, eqb, ltb, List, ap, sym, ◌∙◌, Option, Some, None, ◌<◌, arith, lt-ltb}
+use Rattle.std.proofs.Common.{◌≡◌, refl, ℕ, Bool, true, false, ◌&&◌, ◌||◌, not, eqb, ltb, ap, sym, ◌∙◌, ◌<◌, arith, lt-ltb}
 use Rattle.std.proofs.lemmas.Bool.{ltb-true}
 use Rattle.doc_model.specs.declared.Kind.{Kind}
 use Rattle.doc_model.specs.declared.Kind.TheVariants.{Root, Element, Attribute, Text, Comment}
 use Rattle.doc_model.specs.declared.Axis.TheVariants as axis
 use Rattle.doc_model.specs.Document.{Document, row, is_element, is_attribute, is_element_kind, is_attribute_kind, is_parent, below}
 use Rattle.doc_model.specs.Axes.{on_axis, is_principal}
-use Rattle.css_meaning.specs.declared.selector.Dialect.{Dialect}
 use Rattle.css_meaning.specs.declared.selector.Link.{Link}
 use Rattle.css_meaning.specs.declared.selector.Link.TheVariants as link
-use Rattle.css_meaning.specs.Matching.{has_name, linked}
+use Rattle.css_meaning.specs.Matching.{linked}
 use Rattle.css_meaning.proofs.ListTests as lists
 use Rattle.css_translate.specs.Expression.{axis_of}
 

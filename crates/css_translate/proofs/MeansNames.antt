@@ -1,5 +1,5 @@
 -- Names as node tests with their predicates, and texts as literals.
-use Rattle.std.proofs.Common.{◌≡◌, refl, ℕ, Bool, true, false, ◌&&◌, ◌||◌, cond, eqb, List, [], ◌∷◌, ◌++◌, ap, sym, ◌∙◌, filter, map, Option, Some, None}
+use Rattle.std.proofs.Common.{◌≡◌, refl, ℕ, Bool, true, false, ◌&&◌, cond, eqb, List, [], ◌∷◌, ◌++◌, ap, sym, ◌∙◌, filter, map, Option, Some, None}
 use Rattle.std.specs.Prelude.{flat_map}
 use Rattle.std.specs.List.{list_any}
 use Rattle.std.specs.Str.{bytes_eq}
@@ -7,18 +7,15 @@ use Rattle.std.proofs.lemmas.List.{append-nil}
 use Rattle.std.proofs.lemmas.Bool.{and_parts}
 use Rattle.doc_model.specs.declared.Axis.{Axis}
 use Rattle.doc_model.specs.declared.Axis.TheVariants as axis
-use Rattle.doc_model.specs.declared.NodeTest.{NodeTest}
 use Rattle.doc_model.specs.declared.NodeTest.TheVariants as node
-use Rattle.doc_model.specs.Document.{Document, row, rows, is_element, is_attribute, is_parent}
+use Rattle.doc_model.specs.Document.{Document, row, rows, is_attribute, is_parent}
 use Rattle.doc_model.specs.Axes.{on_axis, passes, is_principal}
 use Rattle.css_meaning.specs.declared.selector.Dialect.{Dialect}
 use Rattle.css_meaning.specs.Matching.{folded, has_name}
 use Rattle.css_meaning.specs.Attributes.{is_attribute_of}
 use Rattle.css_meaning.proofs.ListTests as lists
-use Rattle.xpath_values.specs.declared.value.Value.{Value}
-use Rattle.xpath_values.specs.declared.value.Value.TheVariants.{Nodes, Str, Bool as Truth}
+use Rattle.xpath_values.specs.declared.value.Value.TheVariants.{Nodes, Str}
 use Rattle.xpath_values.specs.declared.value.Compare.TheVariants as compare
-use Rattle.xpath_parser.specs.declared.expression.Expr.{Expr}
 use Rattle.xpath_parser.specs.declared.expression.Expr.TheVariants as e
 use Rattle.xpath_parser.specs.declared.expression.Func.TheVariants as f
 use Rattle.xpath_parser.specs.declared.expression.Infix.TheVariants as infix_of
@@ -28,9 +25,9 @@ use Rattle.xpath_parser.specs.Denote.{has, denote, walk_of}
 use Rattle.xpath_parser.proofs.Equations as eq
 use Rattle.css_translate.specs.Literals.{Quoted, add, quote_of, quoted_runs, literal_parts, is_apostrophe, is_double}
 use Rattle.css_translate.specs.Names.{is_plain}
-use Rattle.css_translate.specs.Predicates.{step, path, literal, literal_of, named, test_of_name, predicates_of_name, node_test, name_brackets, elements, attribute, attribute_step, plain_attribute}
+use Rattle.css_translate.specs.Predicates.{literal, literal_of, named, test_of_name, predicates_of_name, node_test, name_brackets, elements, attribute, attribute_step, plain_attribute}
 use Rattle.css_translate.proofs.PathsKept.{Is, Keep, keep_none, keep_one, step_has}
-use Rattle.css_translate.proofs.MeansValues.{Value_at, is_truth, at_two, at_literal, at_step, at_bare_step}
+use Rattle.css_translate.proofs.MeansValues.{Value_at, is_truth, at_two, at_step, at_bare_step}
 
 -- ---- literals
 

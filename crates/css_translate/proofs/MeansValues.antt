@@ -1,25 +1,21 @@
 -- The values of expressions at a row, whatever its position.
-use Rattle.std.proofs.Common.{◌≡◌, refl, ℕ, Bool, true, false, ◌&&◌, ◌||◌, not, cond, eqb, List, [], ◌∷◌, ap, sym, ◌∙◌, filter, map, ℤ}
+use Rattle.std.proofs.Common.{◌≡◌, refl, ℕ, Bool, true, false, ◌&&◌, ◌||◌, not, cond, List, [], ◌∷◌, ap, ◌∙◌, filter, ℤ}
 use Rattle.std.specs.List.{list_any, list_all}
 use Rattle.doc_model.specs.declared.Axis.{Axis}
 use Rattle.doc_model.specs.declared.NodeTest.{NodeTest}
-use Rattle.doc_model.specs.Document.{Document, row, rows}
+use Rattle.doc_model.specs.Document.{Document, rows}
 use Rattle.doc_model.specs.Axes.{on_axis, passes}
 use Rattle.css_meaning.proofs.ListTests as lists
 use Rattle.xpath_values.specs.declared.value.Value.{Value}
 use Rattle.xpath_values.specs.declared.value.Value.TheVariants.{Nodes, Num, Str, Bool as Truth}
 use Rattle.xpath_values.specs.Numbers.{whole}
-use Rattle.xpath_parser.specs.declared.expression.Func.{Func}
 use Rattle.xpath_parser.specs.declared.expression.Func.TheVariants as f
 use Rattle.xpath_parser.specs.declared.expression.Infix.{Infix}
 use Rattle.xpath_parser.specs.declared.expression.Expr.{Expr}
 use Rattle.xpath_parser.specs.declared.expression.Expr.TheVariants as e
 use Rattle.xpath_parser.specs.declared.expression.Start.TheVariants.{Here}
-use Rattle.xpath_parser.specs.declared.expression.Operand.{Operand, roll-Operand}
-use Rattle.xpath_parser.specs.declared.expression.Step.{Step, roll-Step}
 use Rattle.xpath_parser.specs.Conversions.{is_any, truth_of}
-use Rattle.xpath_parser.specs.Functions.{Context, called}
-use Rattle.xpath_parser.specs.Denote.{has, path as walked, keeps, rows_in, denote, walk_of, applied}
+use Rattle.xpath_parser.specs.Denote.{path as walked, keeps, rows_in, denote, walk_of, applied}
 use Rattle.xpath_parser.proofs.Equations as eq
 use Rattle.css_translate.specs.Predicates.{step, path, joins}
 use Rattle.css_translate.proofs.PathsKept.{Is, Keep, keep_none, step_has}
