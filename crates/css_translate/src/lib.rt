@@ -1,9 +1,9 @@
 //! Selectors printed as XPath, and what the printed texts mean.
 #![tactic(auto)]
 
-mod links;
 mod names;
 mod printing;
 mod pushing;
+mod steps;
 
 pub use printing::translate;
