@@ -1,5 +1,5 @@
 -- A small document and what some selectors give on it.
-use Rattle.std.specs.Prelude.{◌≡◌, ℕ, Bool, true, false, List, [], ◌∷◌, Option, Some, None, codes, ℤ, pos, negsuc}
+use Rattle.std.specs.Prelude.{◌≡◌, ℕ, true, false, List, [], ◌∷◌, Option, Some, None, codes, pos, negsuc}
 use Rattle.doc_model.specs.Document.{Document, Row}
 use Rattle.doc_model.specs.declared.Kind.TheVariants as kind
 use Rattle.css_meaning.specs.declared.selector.Dialect.TheVariants.{Generic, Html}
@@ -65,37 +65,37 @@ alone s = record { items = s ∷ [] }
 abbrev pub odd_items : Selector
 odd_items =
     selector
-      (part link.First (Some (codes "ul")) (is (test.Class (codes "wide")) ∷ [])
-      ∷ part link.Child (Some (codes "LI")) (is (test.Nth nth.Child (pos 2) (pos 1)) ∷ [])
-      ∷ [])
-      tail.Element
+    (part link.First (Some (codes "ul")) (is (test.Class (codes "wide")) ∷ [])
+    ∷ part link.Child (Some (codes "LI")) (is (test.Nth nth.Child (pos 2) (pos 1)) ∷ [])
+    ∷ [])
+    tail.Element
 
 -- li + li:not(:nth-last-of-type(-n+1))::text
 abbrev pub middle_text : Selector
 middle_text =
     selector
-      (part link.First (Some (codes "li")) []
-      ∷ part link.Next (Some (codes "li")) (is_not (test.Nth nth.LastOfType (negsuc 0) (pos 1)) ∷ [])
-      ∷ [])
-      tail.Text
+    (part link.First (Some (codes "li")) []
+    ∷ part link.Next (Some (codes "li")) (is_not (test.Nth nth.LastOfType (negsuc 0) (pos 1)) ∷ [])
+    ∷ [])
+    tail.Text
 
 -- [class^=good] ~ p:empty
 abbrev pub later_paragraph : Selector
 later_paragraph =
     selector
-      (part link.First None (is (test.Attr (codes "class") op.Prefix (codes "good")) ∷ [])
-      ∷ part link.Later (Some (codes "p")) (is (test.Pseudo pseudo.Empty) ∷ [])
-      ∷ [])
-      tail.Element
+    (part link.First None (is (test.Attr (codes "class") op.Prefix (codes "good")) ∷ [])
+    ∷ part link.Later (Some (codes "p")) (is (test.Pseudo pseudo.Empty) ∷ [])
+    ∷ [])
+    tail.Element
 
 -- ul:not(#a) :lang(EN)::attr(lang)
 abbrev pub english : Selector
 english =
     selector
-      (part link.First (Some (codes "ul")) (is_not (test.Id (codes "a")) ∷ [])
-      ∷ part link.Descendant None (is (test.Lang (codes "EN")) ∷ [])
-      ∷ [])
-      (tail.Attr (codes "lang"))
+    (part link.First (Some (codes "ul")) (is_not (test.Id (codes "a")) ∷ [])
+    ∷ part link.Descendant None (is (test.Lang (codes "EN")) ∷ [])
+    ∷ [])
+    (tail.Attr (codes "lang"))
 
 abbrev pub triple : ℕ → ℕ → ℕ → Triple
 triple a b c = record { a = a; b = b; c = c }
