@@ -2,7 +2,9 @@
 #![tactic(auto)]
 
 mod expression;
+mod laws;
 mod term;
 
 pub use expression::{Expr, Func, Infix, Operand, Start, Step};
+pub use laws::{found_exactly, one_expression, one_reading};
 pub use term::{NodeType, Term};
