@@ -19,6 +19,7 @@ use Rattle.css_meaning.specs.declared.selector.Test.TheVariants as test
 use Rattle.css_meaning.specs.declared.selector.Triple.{Triple}
 use Rattle.css_meaning.specs.Specificity.{triple_of}
 use Rattle.css_meaning.specs.Matching.{answers}
+use Rattle.css_meaning.specs.WellMade.{WellMade}
 
 abbrev pub element : List ℕ → ℕ → Row
 element name parent = record { kind = kind.Element; name = name; text = []; parent = parent }
@@ -97,6 +98,10 @@ english =
     ∷ [])
     (tail.Attr (codes "lang"))
 
+-- *:first-of-type
+abbrev pub first_of_any_type : Selector
+first_of_any_type = selector (part link.First None (is (test.Nth nth.OfType (pos 0) (pos 1)) ∷ []) ∷ []) tail.Element
+
 abbrev pub triple : ℕ → ℕ → ℕ → Triple
 triple a b c = record { a = a; b = b; c = c }
 
@@ -112,3 +117,5 @@ pub record WorkedAnswers : Type 0 where
   pub odd_counts : triple_of odd_items ≡ triple 0 2 2
   pub middle_counts : triple_of middle_text ≡ triple 0 1 3
   pub english_counts : triple_of english ≡ triple 1 1 2
+  pub well_made : WellMade (record { items = odd_items ∷ middle_text ∷ [] })
+  pub needs_a_type : WellMade (alone first_of_any_type) → ⊥
