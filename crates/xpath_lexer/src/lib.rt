@@ -2,7 +2,10 @@
 #![tactic(auto)]
 
 mod laws;
+mod sizes;
 mod token;
+mod tokens;
 
 pub use laws::one_spelling;
 pub use token::{XKind, XTok};
+pub use tokens::xpath_tokens;
