@@ -1,7 +1,7 @@
 -- The sizes are those of the tokens.
-use Rattle.std.proofs.Common.{◌≡◌, eqb, refl, sym, ◌∙◌, ap, subst, ℕ, zero, suc, ◌+◌, ◌-◌, ◌<◌, ◌≤◌, Bool, true, false, ◌&&◌, ◌||◌, not, cond, List, [], ◌∷◌, ◌++◌, length, get_or, take, drop, Option, Some, None, arith, ◌⊎◌, inl, inr, append-nil, get_or-drop, length-drop}
+use Rattle.std.proofs.Common.{◌≡◌, eqb, refl, sym, ◌∙◌, ap, subst, ℕ, suc, ◌+◌, ◌-◌, ◌<◌, ◌≤◌, Bool, true, false, ◌&&◌, ◌||◌, cond, [], ◌∷◌, ◌++◌, length, get_or, take, drop, Option, Some, None, arith, ◌⊎◌, inl, inr, append-nil, get_or-drop, length-drop}
 use Rattle.std.proofs.Math.Seq.{take-append-add, drop-append-add}
-use Rattle.std.specs.Prelude.{nat_lt, slice_index}
+use Rattle.std.specs.Prelude.{nat_lt}
 use Rattle.std.specs.List.{prefix_len}
 use Rattle.std.proofs.lemmas.Bool.{cases_lt}
 use Rattle.std.proofs.lemmas.List.{get_or_past, take-append-drop}
@@ -311,6 +311,7 @@ point_right (b ∷ bs) = by_point (eqb b 46) refl
       fits = (omega arith, record { within = run_end_le is_digit (46 ∷ b ∷ bs) 1 (omega arith); ends = inr (omega arith, digits_last (46 ∷ b ∷ bs) 1 (omega arith) (omega arith)) }, no_literal k.Number _ _ refl);
     }
     by_digit false e = one_right k.Dot 46 (b ∷ bs) refl (omega arith)
+
     by_point : (v : Bool) → eqb b 46 ≡ v → Right (46 ∷ b ∷ bs) (t.point (b ∷ bs)) (Some (s.point_size (46 ∷ b ∷ bs)))
     by_point true e =
         let same : b ≡ 46 = grind (arith, nat_tests) in

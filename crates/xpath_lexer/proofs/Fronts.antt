@@ -1,7 +1,6 @@
 -- The tokens found so far, and the text that is left.
 use Rattle.std.proofs.lemmas.List.{drop_all}
-use Rattle.std.proofs.Common.{◌≡◌, refl, sym, ◌∙◌, ap, subst, ℕ, zero, suc, ◌+◌, ◌-◌, ◌<◌, ◌≤◌, Bool, true, false, List, [], ◌∷◌, ◌++◌, map, length, get_or, drop, Option, Some, None, arith, ◌⊎◌, inl, inr, IsUtf8, append_assoc, append-nil, drop-cons}
-use Rattle.std.specs.Prelude.{slice_index}
+use Rattle.std.proofs.Common.{◌≡◌, refl, sym, ◌∙◌, ap, subst, ℕ, zero, suc, ◌+◌, ◌-◌, ◌<◌, ◌≤◌, true, false, List, [], ◌∷◌, ◌++◌, map, length, get_or, drop, Some, None, arith, ◌⊎◌, inl, inr, IsUtf8, append_assoc, append-nil, drop-cons}
 use Rattle.std.proofs.lemmas.Bool.{cases_lt}
 use Rattle.std.proofs.lemmas.Bool.Decides.{nat_tests}
 use Rattle.text_base.specs.Text.{run_end, is_space4, IsPlace}
@@ -97,6 +96,7 @@ module _ (text : Text) (utf8 : IsUtf8 text) where
       front_map : (found : List XTok) (w : XTok) (ws : List Lexeme) → map lexeme_of found ++ lexeme_of w ∷ ws ≡ map lexeme_of (found ++ w ∷ []) ++ ws
       front_map [] w ws = refl
       front_map (v ∷ vs) w ws = ap (λ us. lexeme_of v ∷ us) (front_map vs w ws)
+
       token_here : IsToken text a w → w.from ≡ a → IsToken text a w
       token_here i h = i
 

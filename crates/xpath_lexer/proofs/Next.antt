@@ -1,19 +1,19 @@
 -- The token at a place of a text.
-use Rattle.std.proofs.Common.{◌≡◌, refl, sym, ◌∙◌, ap, subst, ℕ, suc, ◌+◌, ◌-◌, ◌<◌, ◌≤◌, Bool, true, false, List, [], ◌∷◌, ◌++◌, length, get_or, take, drop, Option, Some, None, arith, ◌⊎◌, inl, inr, get_or-drop, length-drop, drop-drop, IsUtf8, encode_utf8_all}
-use Rattle.std.specs.Prelude.{slice_range, slice_index}
+use Rattle.std.proofs.Common.{◌≡◌, refl, ◌∙◌, ap, subst, ℕ, ◌+◌, ◌-◌, ◌<◌, ◌≤◌, true, length, get_or, take, drop, Some, None, arith, inl, inr, get_or-drop, length-drop, drop-drop, IsUtf8, encode_utf8_all}
+use Rattle.std.specs.Prelude.{slice_index}
 use Rattle.std.specs.Str.{chars}
 use Rattle.std.proofs.lemmas.Bool.{cases_lt}
 use Rattle.std.proofs.lemmas.Str.{IsCharBoundary-end}
-use Rattle.text_base.specs.Text.{is_space4, IsPlace}
+use Rattle.text_base.specs.Text.{IsPlace}
 use Rattle.text_base.proofs.Text.{encode-chars}
 use Rattle.text_base.proofs.Boundaries.{place, before_ascii, after_ascii}
 use Rattle.xpath_lexer.specs.declared.token.XKind.{XKind}
 use Rattle.xpath_lexer.specs.declared.token.XKind.TheVariants as k
 use Rattle.xpath_lexer.specs.declared.token.XTok.{XTok}
-use Rattle.xpath_lexer.specs.Tokens.{Text, lexeme, Begun, token}
-use Rattle.xpath_lexer.specs.Sizes.{Size, token_size}
-use Rattle.xpath_lexer.specs.Places.{IsToken, IsNext, ValueStands, lexeme_of, value_bytes}
-use Rattle.xpath_lexer.proofs.Cuts.{written, cut, Fits, Quotes, Sound, is_literal, token_right}
+use Rattle.xpath_lexer.specs.Tokens.{Text, lexeme, token}
+use Rattle.xpath_lexer.specs.Sizes.{token_size}
+use Rattle.xpath_lexer.specs.Places.{IsNext, ValueStands, value_bytes}
+use Rattle.xpath_lexer.proofs.Cuts.{written, cut, Quotes, Sound, is_literal, token_right}
 
 pub encode_chars : (bs : Text) → IsUtf8 bs → encode_utf8_all (chars bs) ≡ bs
 encode_chars bs u = encode-chars bs u

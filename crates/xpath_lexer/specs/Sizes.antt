@@ -1,6 +1,6 @@
 -- How many bytes the token at the front of a text has, and of which kind it is. This is the order of the code's work, and serves
 -- its contracts: that it is the token of Tokens is proved.
-use Rattle.std.specs.Prelude.{◌≡◌, ℕ, ◌+◌, ◌-◌, Bool, true, false, ◌&&◌, ◌||◌, ◌==◌, nat_lt, if◌then◌else◌, List, drop, length, slice_index, Option, Some, None}
+use Rattle.std.specs.Prelude.{ℕ, ◌+◌, Bool, ◌&&◌, ◌||◌, ◌==◌, nat_lt, if◌then◌else◌, drop, length, slice_index, Option, Some, None}
 use Rattle.text_base.specs.Text.{run_end, is_not_byte, is_space4}
 use Rattle.xpath_lexer.specs.declared.token.XKind.{XKind}
 use Rattle.xpath_lexer.specs.declared.token.XKind.TheVariants as k

@@ -3,6 +3,8 @@
 
 mod laws;
 mod sizes;
+#[cfg(test)]
+mod tests;
 mod token;
 mod tokens;
 

@@ -32,10 +32,7 @@ fn is_digit(byte: u8) -> bool
 fn is_name_start(byte: u8) -> bool
     ensures { result ≡ tokens.is_name_start byte }
 {
-    (byte >= b'A' && byte <= b'Z')
-        || (byte >= b'a' && byte <= b'z')
-        || byte == b'_'
-        || byte >= 128
+    (byte >= b'A' && byte <= b'Z') || (byte >= b'a' && byte <= b'z') || byte == b'_' || byte >= 128
 }
 
 fn is_name_byte(byte: u8) -> bool

@@ -71,6 +71,7 @@ pub fn xpath_tokens(alloc: Global, text: &str) -> Result<Seq<XTok>, XPathFault>
     ensures spelled { IfOk result (λ ws. Spells text.now (map lexeme_of ws)) }
     ensures places { IfOk result (λ ws. Stand text.now 0 ws) }
     ensures short { IfOk result (λ ws. length text.now ≤ most_bytes) }
+    ensures long { most_bytes < length text.now → IsErrOf result fault.Long }
     ensures fault { IfErr result (λ e. e ≢ fault.Memory → IsFault text.now e) }
 {
     if text.len() > MOST_BYTES {

@@ -1,5 +1,4 @@
-use Rattle.std.proofs.Common.{◌≡◌, ℕ, ◌+◌, inr, refl, arith, rules, length, ◌≤◌, drop, subst, sym, ap, ◌∙◌, Some, None, List}
-use Rattle.text_base.specs.Text.{IsPlace}
+use Rattle.std.proofs.Common.{◌≡◌, ◌+◌, inr, refl, rules, length, ◌≤◌, drop, sym, ap, ◌∙◌, Some}
 use Rattle.xpath_lexer.specs.Sizes.{token_size}
 use Rattle.xpath_lexer.proofs.Next as next
 use Rattle.xpath_lexer.proofs.tokens.next_token.Goals as goal

@@ -1,4 +1,4 @@
-use Rattle.std.proofs.Common.{◌≡◌, ◌≢◌, refl, arith, rules, sym, ap, subst, ◌∙◌, []}
+use Rattle.std.proofs.Common.{◌≢◌, arith, rules, sym, ap, subst, ◌∙◌}
 use Rattle.text_base.specs.Text.{run_end, is_space4}
 use Rattle.text_base.specs.declared.reasons.XPathFault.TheVariants as fault
 use Rattle.xpath_lexer.specs.Places.{IsFault}

@@ -1,5 +1,4 @@
-use Rattle.std.proofs.Common.{length, ◌-◌, ◌≤◌}
-use Rattle.xpath_lexer.specs.Places.{most_bytes}
+use Rattle.std.proofs.Common.{length, ◌-◌}
 use Rattle.xpath_lexer.proofs.Fronts.{Front}
 use Rattle.xpath_lexer.proofs.tokens.xpath_tokens.Given as goal
 
