@@ -19,7 +19,7 @@ use Rattle.css_translate.specs.Names.{is_plain, is_plain_start, is_plain_char, n
 use Rattle.css_translate.specs.Plain.{is_plain_element, is_inner_link, IsPlainNext, IsPlainParts, HasPlainName}
 use Rattle.css_translate.specs.Printed.{step_text, part_text, parts_text}
 use Rattle.css_translate.specs.Simples.{simple_text}
-use Rattle.css_translate.proofs.Names.{folded_plain, plain_start, plain_rest, plain_bytes, plain_chars}
+use Rattle.css_translate.proofs.PlainNames.{folded_plain, plain_start, plain_rest, plain_bytes, plain_chars}
 use Rattle.css_translate.proofs.Spelling.{Spoken, Behind, name_spoken}
 
 -- The piece puts these terms in front of what stands behind it: a piece that is no operand, as it begins with `[`, `/` or the like,
@@ -161,7 +161,7 @@ inner_puts room d link.Later el i h rest us b = cc
 
 -- ---- parts without simples
 
-bare_part : (d : Dialect) (p : Part) → p.simples ≡ [] → part_text d p ≡ step_text d p.link p.element
+pub bare_part : (d : Dialect) (p : Part) → p.simples ≡ [] → part_text d p ≡ step_text d p.link p.element
 bare_part d p e =
     ap (λ ss. step_text d p.link p.element ++ flat_map (simple_text d p.element) ss) e ∙ append-nil (step_text d p.link p.element)
 
@@ -184,3 +184,6 @@ selector_says room d p ps h g =
     let e : step_text d link.First p.element ≡ part_text d p = ap (λ l. step_text d l p.element) (sym h.0) ∙ sym (bare_part d p h.1) in
     says_then room (part_text d p) (parts_text d ps) (step_terms d link.First p.element) (inner_terms d ps)
     (subst P e (first_says room d p.element g.0)) (parts_put room d ps h.2 g.1)
+
+pub plain_element_text : (d : Dialect) (n : List ℕ) → is_plain n ≡ true → element_text d (Some n) ≡ name_bytes d n
+plain_element_text d n h = ap (λ b. cond b (name_bytes d n) (codes "*" ++ name_bracket d n)) (folded_plain d n h)

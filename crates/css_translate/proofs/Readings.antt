@@ -22,7 +22,7 @@ use Rattle.css_translate.specs.Names.{is_plain}
 use Rattle.css_translate.specs.Plain.{is_plain_element, is_inner_link, IsPlainNext, IsPlainParts, HasPlainName}
 use Rattle.css_translate.specs.Predicates.{step, node_test, named, name_brackets, simple_predicates}
 use Rattle.css_translate.specs.Expression.{axis_of, part_step}
-use Rattle.css_translate.proofs.Names.{folded_plain}
+use Rattle.css_translate.proofs.PlainNames.{folded_plain}
 use Rattle.css_translate.proofs.Pieces.{element_terms, step_terms, inner_terms}
 
 -- a lone operand, one tier up
