@@ -16,3 +16,4 @@ pub mod Rooms
 pub mod Spelling
 pub mod Theorem
 pub mod Typed
+mod Worked

@@ -9,7 +9,7 @@ use Rattle.xpath_values.specs.declared.value.Value.TheVariants.{Nodes}
 use Rattle.xpath_parser.specs.declared.expression.Expr.{Expr}
 use Rattle.xpath_parser.specs.Reading.{ReadsAs, most_bytes}
 use Rattle.xpath_parser.specs.Shapes.{shape_of}
-use Rattle.xpath_parser.specs.Laws.{OneExpression}
+use Rattle.xpath_parser.proofs.Complete.{one_expression}
 use Rattle.css_translate.specs.Expression.{expression}
 use Rattle.css_translate.specs.Plain.{IsPlain, IsOnePlain}
 use Rattle.css_translate.specs.Printed.{printed, selector_text}
@@ -26,10 +26,6 @@ one_reads : (d : Dialect) (list : SelectorList) → IsOnePlain list → length (
 one_reads d list h short =
     let P : List Selector → Type 0 = λ items. length (printed d (record { items = items })) ≤ most_bytes → ReadsBack d (record { items = items }) in
     subst P (sym h.1) (λ (within : length (selector_text d h.0) ≤ most_bytes). record { reads = selector_reads d h.0 h.2 within; nodes = selector_shape d h.0 }) short
-
--- two readings of a text are one
-one_expression : OneExpression
-one_expression = ?
 
 keeps : (d : Dialect) (list : SelectorList) → IsOnePlain list → length (printed d list) ≤ most_bytes → KeepsMeaning d list (printed d list)
 keeps d list h short =

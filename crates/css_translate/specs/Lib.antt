@@ -1,4 +1,5 @@
 pub mod Conditions
+pub mod Examples
 pub mod Expression
 pub mod Literals
 pub mod Names

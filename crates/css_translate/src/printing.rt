@@ -4,7 +4,7 @@ ghost use Rattle.css_translate.specs.Plain.{is_plain_element, HasPlainName, IsOn
 ghost use Rattle.css_translate.specs.Printed.{part_text, parts_text, printed};
 ghost use Rattle.css_translate.specs.Promise.{KeepsMeaning};
 
-use crate::links::push_step;
+use crate::steps::push_step;
 use css_meaning::{Dialect, Part, SelectorList};
 use std::alloc::Global;
 use text_base::{NoMemory, SelectorFault};
