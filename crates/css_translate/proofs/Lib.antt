@@ -1,5 +1,7 @@
 pub mod Links
 pub mod LinksNext
+pub mod LiteralBytes
+pub mod LiteralParts
 pub mod Means
 pub mod MeansNames
 pub mod MeansParts
