@@ -1,5 +1,8 @@
 pub mod Links
 pub mod LinksNext
+pub mod LiteralBytes
+pub mod LiteralParts
+pub mod LiteralRuns
 pub mod Means
 pub mod MeansNames
 pub mod MeansParts

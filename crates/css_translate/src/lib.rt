@@ -2,10 +2,12 @@
 #![tactic(auto)]
 
 mod laws;
+mod literals;
 mod names;
 mod printing;
 mod pushing;
 mod steps;
 
 pub use laws::worked_texts;
+pub use literals::literal;
 pub use printing::translate;
