@@ -1,13 +1,12 @@
 -- A document with one row more is a document.
-use Rattle.std.proofs.Common.{◌≡◌, ℕ, zero, suc, ◌+◌, ◌-◌, ◌<◌, ◌≤◌, List, [], ◌∷◌, ◌++◌, length, Bool, true, false, ◌&&◌, ◌||◌, eqb, ltb, refl, sym, ◌∙◌, ap, subst, arith, inl, inr, ◌⊎◌, lt-ltb}
-use Rattle.std.specs.Prelude.{◌≢◌, IsTrue}
-use Rattle.std.proofs.lemmas.Bool.{or_cases, or_left, or_right, cases_lt, cases_eq, eqb-true, eq-eqb}
-use Rattle.std.proofs.lemmas.List.{get_or_past, get_or_push, get_or_append_left, length-append, length_push}
-use Rattle.doc_model.specs.declared.Kind.{Kind}
+use Rattle.std.proofs.Common.{◌≡◌, ℕ, zero, suc, ◌-◌, ◌<◌, ◌≤◌, List, [], ◌∷◌, ◌++◌, length, true, ◌&&◌, ◌||◌, eqb, ltb, refl, sym, ◌∙◌, ap, subst, arith, inl, inr, ◌⊎◌}
+use Rattle.std.specs.Prelude.{◌≢◌}
+use Rattle.std.proofs.lemmas.Bool.{or_cases, or_left, or_right, cases_lt, eqb-true, eq-eqb}
+use Rattle.std.proofs.lemmas.List.{get_or_past, get_or_push, get_or_append_left, length_push}
 use Rattle.doc_model.specs.declared.Kind.TheVariants.{Root, Element, Attribute, Text, Comment}
-use Rattle.doc_model.specs.Document.{Row, Document, no_row, row, is_attribute_kind, is_attribute, is_parent, below, IsLastChildBefore, IsRow, IsDocument}
+use Rattle.doc_model.specs.Document.{Row, Document, no_row, row, is_attribute_kind, below, IsLastChildBefore, IsRow, IsDocument}
 use Rattle.doc_model.specs.Growing.{Growing, growing, fresh, innermost, element_row, attr_row, text_row, comment_row, with_row, with_element, with_attr, with_text, with_comment, with_close, rest_of, AwaitsAttr, AwaitsText, IsChain, IsGrowing}
-use Rattle.doc_model.proofs.Below.{Small, SameBelow, small, below_same, below_parent, below_up, below_trans}
+use Rattle.doc_model.proofs.Below.{Small, SameBelow, small, below_same, below_parent, below_trans}
 
 pub pushed_same : (doc : Document) (r : Row) → SameBelow (length doc) doc (doc ++ r ∷ [])
 pushed_same doc r k l = get_or_append_left doc (r ∷ []) no_row k l
