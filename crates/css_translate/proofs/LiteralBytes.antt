@@ -143,4 +143,3 @@ parts_bytes x =
     ap (λ b. cond b (cond (list_any is_double (encode_utf8_all x)) (quoted_runs (encode_utf8_all x)) (record { quote = 34; content = encode_utf8_all x } ∷ [])) (record { quote = 39; content = encode_utf8_all x } ∷ [])) (holds_bytes is_apostrophe past_39 x)
     ∙ ap (λ b. cond (list_any is_apostrophe x) (cond b (quoted_runs (encode_utf8_all x)) (record { quote = 34; content = encode_utf8_all x } ∷ [])) (record { quote = 39; content = encode_utf8_all x } ∷ [])) (holds_bytes is_double past_34 x)
     ∙ parts_choice (list_any is_apostrophe x) (list_any is_double x) x (quoted_runs (encode_utf8_all x)) (runs_bytes x)
-

@@ -1,8 +1,8 @@
 -- What the quoted runs of a literal hold.
-use Rattle.std.proofs.Common.{◌≡◌, ℕ, zero, suc, ◌≤◌, Bool, true, false, cond, List, [], ◌∷◌, length, ◌++◌, refl, sym, ◌∙◌, ap, arith, inl, inr}
+use Rattle.std.proofs.Common.{◌≡◌, ℕ, ◌≤◌, Bool, true, false, cond, List, [], ◌∷◌, length, ◌++◌, refl, sym, ◌∙◌, ap, arith, inl, inr}
 use Rattle.std.specs.Prelude.{◌==◌, ◌||◌, ◌&&◌, not}
 use Rattle.std.specs.List.{list_any}
-use Rattle.std.proofs.lemmas.Bool.{and_parts, and_from, or_parts, or_from, or_cases, or_left, or_right, eqb-true, eq-eqb, cond_both, not-true, not_from_false}
+use Rattle.std.proofs.lemmas.Bool.{and_parts, and_from, or_from, or_cases, or_left, or_right, eqb-true, eq-eqb, cond_both, not-true, not_from_false}
 use Rattle.std.proofs.lemmas.List.{append-nil}
 use Rattle.css_translate.specs.Literals.{is_apostrophe, is_double, Quoted, quote_of, add, quoted_runs, literal_parts}
 
@@ -101,4 +101,3 @@ two_quotes (q ∷ (q' ∷ qs)) h k = omega arith
 
 pub two_parts : (x : Text) → list_any is_apostrophe x ≡ true → list_any is_double x ≡ true → 2 ≤ length (quoted_runs x)
 two_parts x a d = two_quotes (quoted_runs x) (runs_have 34 is_apostrophe apostrophe_quote x a) (runs_have 39 is_double double_quote x d)
-

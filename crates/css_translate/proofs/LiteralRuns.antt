@@ -1,13 +1,12 @@
 -- The runs of a literal, found from the left.
-use Rattle.std.proofs.Common.{◌≡◌, ℕ, zero, suc, ◌+◌, ◌-◌, ◌<◌, ◌≤◌, Bool, true, false, cond, List, [], ◌∷◌, ◌++◌, length, take, drop, refl, sym, ◌∙◌, ap, arith, inl, inr, append_assoc, append-nil, subst}
+use Rattle.std.proofs.Common.{◌≡◌, ℕ, suc, ◌+◌, ◌-◌, ◌<◌, ◌≤◌, Bool, true, false, cond, List, [], ◌∷◌, ◌++◌, length, take, drop, refl, sym, ◌∙◌, ap, arith, inl, inr, append_assoc, append-nil, subst}
 use Rattle.std.specs.Prelude.{◌==◌, ◌||◌, not, nat_lt, slice_index, slice_range, codes}
 use Rattle.std.specs.List.{list_any, prefix_len}
 use Rattle.std.specs.Str.{IsUtf8}
 use Rattle.std.proofs.Math.Seq.{drop-cons}
 use Rattle.std.proofs.lemmas.List.{drop-drop, drop_all}
-use Rattle.std.proofs.lemmas.Bool.{cases_Bool, or_parts, or_cases, or_from}
+use Rattle.std.proofs.lemmas.Bool.{cases_Bool, or_parts}
 use Rattle.std.proofs.lemmas.Bool.Decides.{nat_tests}
-use Rattle.std.proofs.lemmas.List.Sums.{prefix_len-le-length}
 use Rattle.text_base.specs.Text.{run_end, is_not_byte, IsPlace}
 use Rattle.text_base.proofs.Runs.{run_end_step}
 use Rattle.text_base.proofs.Boundaries.{past_ascii}
@@ -102,7 +101,7 @@ writes text from to c q p before now lt at same quote end moves within place wri
     let front : drop from text ≡ c ∷ drop (suc from) text = drop-cons text from 0 lt ∙ ap (λ b. b ∷ drop (suc from) text) (sym at) in
     let n : prefix_len (same_quote c) (drop from text) ≡ to - from = ap (λ r. prefix_len r (drop from text)) same ∙ omega (arith, end) in
     let runs : quoted_runs (drop from text) ≡ run_of (quote_of c) (drop from text) (prefix_len (same_quote c) (drop from text)) =
-      (let P : List ℕ → Type 0 = λ x. quoted_runs x ≡ run_of (quote_of c) x (prefix_len (same_quote c) x) in subst P (sym front) (first_run c (drop (suc from) text))) in
+    (let P : List ℕ → Type 0 = λ x. quoted_runs x ≡ run_of (quote_of c) x (prefix_len (same_quote c) x) in subst P (sym front) (first_run c (drop (suc from) text))) in
     let rest : drop (to - from) (drop from text) ≡ drop to text = drop-drop (to - from) from text ∙ ap (λ k. drop k text) (omega arith) in
     record {
       run = record { quote = q; content = slice_range text from to };

@@ -7,6 +7,8 @@ mod names;
 mod printing;
 mod pushing;
 mod steps;
+#[cfg(test)]
+mod tests;
 
 pub use laws::worked_texts;
 pub use literals::literal;

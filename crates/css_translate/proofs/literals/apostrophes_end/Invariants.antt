@@ -1,6 +1,4 @@
-use Rattle.std.proofs.Common.{◌≡◌, ◌<◌, ◌≤◌, ◌-◌, length}
-use Rattle.text_base.specs.Text.{IsPlace, run_end}
-use Rattle.css_translate.specs.Literals.{is_apostrophe}
+use Rattle.std.proofs.Common.{◌≡◌, ◌-◌, length}
 use Rattle.css_translate.specs.Runs.{InApostrophes}
 use Rattle.css_translate.proofs.literals.apostrophes_end.Given as goal
 

@@ -1,5 +1,4 @@
 use Rattle.text_base.proofs.Boundaries.{at_start}
-use Rattle.css_translate.proofs.LiteralRuns.{first_written, one_further, all_written}
 use Rattle.css_translate.proofs.literals.push_runs.Goals as goal
 
 pub push_run-requires-clause-place : goal.push_run-requires-clause-place
