@@ -1,9 +1,13 @@
 pub mod Links
 pub mod LinksNext
 pub mod Means
+pub mod MeansAttributes
 pub mod MeansNames
 pub mod MeansParts
 pub mod MeansPlain
+pub mod MeansPositions
+pub mod MeansPseudo
+pub mod MeansTests
 pub mod MeansValues
 pub mod Paths
 pub mod PathsKept
