@@ -1,12 +1,15 @@
 pub mod Links
 pub mod LinksNext
 pub mod Means
+pub mod MeansAll
 pub mod MeansAttributes
 pub mod MeansNames
+pub mod MeansNth
 pub mod MeansParts
 pub mod MeansPlain
 pub mod MeansPositions
 pub mod MeansPseudo
+pub mod MeansSiblings
 pub mod MeansTests
 pub mod MeansValues
 pub mod Paths

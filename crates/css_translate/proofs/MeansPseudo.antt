@@ -67,7 +67,7 @@ module _ (doc : Document) where
   -- ---- no element as parent
 
   -- an element is behind row 0
-  element_some : IsDocument doc → (x : ℕ) → is_element doc x ≡ true → 0 < x
+  pub element_some : IsDocument doc → (x : ℕ) → is_element doc x ≡ true → 0 < x
   element_some is x h = elim (cases_lt 0 x) [
       inl l ↦ l
     | inr le ↦ absurd (let zero_row : x ≡ 0 = omega arith in
