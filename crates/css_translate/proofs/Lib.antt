@@ -10,7 +10,9 @@ pub mod MeansPlain
 pub mod MeansPositions
 pub mod MeansPseudo
 pub mod MeansSiblings
+pub mod MeansSuffix
 pub mod MeansTests
 pub mod MeansValues
+pub mod MeansWords
 pub mod Paths
 pub mod PathsKept

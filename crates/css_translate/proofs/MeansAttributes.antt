@@ -13,13 +13,13 @@ use Rattle.doc_model.specs.StringValue.{string_value, string_value_of}
 use Rattle.css_meaning.specs.declared.selector.Dialect.{Dialect}
 use Rattle.css_meaning.specs.declared.selector.Op.{Op}
 use Rattle.css_meaning.specs.declared.selector.Op.TheVariants as op
-use Rattle.css_meaning.specs.Attributes.{is_attribute_of, has_value, has_attribute, op_test, dash_test, prefix_test, substring_test}
+use Rattle.css_meaning.specs.Attributes.{suffix_test, word_test, is_attribute_of, has_value, has_attribute, op_test, dash_test, prefix_test, substring_test}
 use Rattle.css_meaning.proofs.ListTests as lists
 use Rattle.css_meaning.proofs.Values.{same_means}
 use Rattle.xpath_values.specs.declared.value.Value.{Value}
 use Rattle.xpath_values.specs.declared.value.Value.TheVariants.{Nodes, Num, Str, Bool as Truth}
 use Rattle.xpath_values.specs.declared.value.Compare.TheVariants as compare
-use Rattle.xpath_values.specs.Strings.{begins, place_of, is_found, one_more, str_contains}
+use Rattle.xpath_values.specs.Strings.{substring_from, normalized, begins, place_of, is_found, one_more, str_contains}
 use Rattle.xpath_parser.specs.declared.expression.Expr.{Expr}
 use Rattle.xpath_parser.specs.declared.expression.Expr.TheVariants as e
 use Rattle.xpath_parser.specs.declared.expression.Func.TheVariants as f
@@ -28,10 +28,17 @@ use Rattle.xpath_parser.specs.Conversions.{is_any, text_of, text_of_rows, truth_
 use Rattle.xpath_parser.specs.Functions.{Context}
 use Rattle.xpath_parser.specs.Denote.{has, denote, applied}
 use Rattle.xpath_parser.proofs.Equations as eq
-use Rattle.css_translate.specs.Predicates.{literal, equals, both, number, dash_predicate, prefix_predicate, substring_predicate}
+use Rattle.css_translate.specs.Predicates.{literal, equals, both, number, dash_predicate, prefix_predicate, substring_predicate, suffix_predicate, word_predicate, joins}
 use Rattle.css_translate.proofs.PathsKept.{Is}
-use Rattle.css_translate.proofs.MeansValues.{Value_at, is_truth, is_nodes, is_never, any_kept, at_two, at_both, at_either, at_call_two}
+use Rattle.css_translate.proofs.MeansValues.{Value_at, is_truth, is_nodes, is_never, any_kept, at_two, at_both, at_either, at_call_one, at_call_two, at_call_three, at_number}
 use Rattle.css_translate.proofs.MeansNames.{at_text}
+use Rattle.css_translate.proofs.MeansSuffix.{suffix_same}
+use Rattle.css_meaning.specs.Limits.{Countable, NoFormFeed}
+use Rattle.css_translate.proofs.MeansWords.{word_between}
+use Rattle.text_base.specs.Text.{is_space5}
+use Rattle.std.specs.Prelude.{pos, ◌^◌, ◌-◌}
+use Rattle.xpath_values.specs.Numbers.{whole, num_sub}
+use Rattle.text_base.specs.Strings.{ends_with, is_among, runs}
 
 -- ---- texts
 
@@ -195,3 +202,57 @@ module _ (doc : Document) where
 
     pub substring_is : IsDocument doc → (v : List ℕ) (x : ℕ) → Is doc (substring_predicate a v) x (has_value doc x n (λ t. substring_test t v))
     substring_is is v x = unless_empty (is_empty v) (both a (e.Call f.Contains (a ∷ literal v ∷ []))) (λ t. contains t v) x (with_attribute is _ (λ t. contains t v) x (at_contains v x))
+
+    -- ---- how the value ends
+
+    found_small : Countable doc → (x : ℕ) → length (text_of_rows doc (found x n)) < 2 ^ 53
+    found_small c x = at (found x n) (λ y i. found_is x n y i)
+      where
+        at : (xs : List ℕ) → ((y : ℕ) → has y xs ≡ true → is_attribute_of doc x n y ≡ true) → length (text_of_rows doc xs) < 2 ^ 53
+        at [] h = omega arith
+        at (y ∷ xs) h =
+            let kind : is_attribute doc y ≡ true = (and_parts (is_attribute doc y) _ (h y (lists.in_first y xs))).0 in
+            subst (λ t. length t < 2 ^ 53) (sym (attribute_value y kind)) (c.values y kind)
+
+    at_suffix : (v : List ℕ) (x : ℕ) → Value_at doc (equals (e.Call f.Substring (a ∷ joins infix_of.Sub (e.Call f.StringLength (a ∷ [])) (number (length v - 1)) ∷ [])) (literal v)) x
+        (Truth (bytes_eq (substring_from (text_of_rows doc (found x n)) (num_sub (whole (pos (length (text_of_rows doc (found x n))))) (whole (pos (length v - 1))))) v))
+    at_suffix v x =
+        at_two doc (e.Call f.Substring (a ∷ joins infix_of.Sub (e.Call f.StringLength (a ∷ [])) (number (length v - 1)) ∷ [])) (literal v) (infix_of.Compare compare.Equal) x
+        (Str (substring_from (text_of_rows doc (found x n)) (num_sub (whole (pos (length (text_of_rows doc (found x n))))) (whole (pos (length v - 1)))))) (Str v)
+        (at_call_two doc f.Substring a (joins infix_of.Sub (e.Call f.StringLength (a ∷ [])) (number (length v - 1))) x (Nodes (found x n)) _ (at_a x)
+        (at_two doc (e.Call f.StringLength (a ∷ [])) (number (length v - 1)) infix_of.Sub x (Num (whole (pos (length (text_of_rows doc (found x n)))))) (Num (whole (pos (length v - 1))))
+        (at_call_one doc f.StringLength a x (Nodes (found x n)) (at_a x)) (at_number doc (pos (length v - 1)) x))) (at_text doc v x)
+
+    suffix_at : (b : Bool) (v : List ℕ) → is_empty v ≡ b → IsDocument doc → Countable doc → (x : ℕ)
+        → Is doc (cond b (number 0) (both a (equals (e.Call f.Substring (a ∷ joins infix_of.Sub (e.Call f.StringLength (a ∷ [])) (number (length v - 1)) ∷ [])) (literal v)))) x (has_value doc x n (λ t. not b && ends_with t v))
+    suffix_at true v h is c x at size = is_never doc x at size ∙ sym (none_has x)
+    suffix_at false v h is c x at size = with_attribute is _ (λ t. ends_with t v) x (λ i j. at_suffix v x i j ∙ ap Truth (suffix_same (text_of_rows doc (found x n)) v h (found_small c x))) at size
+
+    pub suffix_is : IsDocument doc → Countable doc → (v : List ℕ) (x : ℕ) → Is doc (suffix_predicate a v) x (has_value doc x n (λ t. suffix_test t v))
+    suffix_is is c v x = suffix_at (is_empty v) v refl is c x
+
+    -- ---- the words of the value
+
+    abbrev bounded : Expr
+    bounded = e.Call f.Concat (literal (codes " ") ∷ e.Call f.NormalizeSpace (a ∷ []) ∷ literal (codes " ") ∷ [])
+
+    at_word : (v : List ℕ) (x : ℕ) → Value_at doc (e.Call f.Contains (bounded ∷ literal (codes " " ++ (v ++ codes " ")) ∷ [])) x
+        (Truth (contains (32 ∷ (normalized (text_of_rows doc (found x n)) ++ 32 ∷ [])) (32 ∷ (v ++ 32 ∷ []))))
+    at_word v x at size =
+        at_call_two doc f.Contains bounded (literal (codes " " ++ (v ++ codes " "))) x (Str (32 ∷ (normalized (text_of_rows doc (found x n)) ++ 32 ∷ []))) (Str (codes " " ++ (v ++ codes " ")))
+        (at_call_three doc f.Concat (literal (codes " ")) (e.Call f.NormalizeSpace (a ∷ [])) (literal (codes " ")) x (Str (codes " ")) (Str (normalized (text_of_rows doc (found x n)))) (Str (codes " "))
+        (at_text doc (codes " ") x) (at_call_one doc f.NormalizeSpace a x (Nodes (found x n)) (at_a x)) (at_text doc (codes " ") x))
+        (at_text doc (codes " " ++ (v ++ codes " ")) x) at size
+        ∙ ap Truth (contains_same (32 ∷ (normalized (text_of_rows doc (found x n)) ++ 32 ∷ [])) (32 ∷ (v ++ 32 ∷ [])))
+
+    word_at : (some clear : Bool) (v : List ℕ) → is_empty v ≡ some → list_any is_space5 v ≡ clear → IsDocument doc → NoFormFeed doc → (x : ℕ)
+        → Is doc (cond (some || clear) (number 0) (both a (e.Call f.Contains (bounded ∷ literal (codes " " ++ (v ++ codes " ")) ∷ [])))) x
+        (has_value doc x n (λ t. not some && (not clear && is_among v (runs is_space5 t))))
+    word_at true clear v h k is calm x at size = is_never doc x at size ∙ sym (none_has x)
+    word_at false true v h k is calm x at size = is_never doc x at size ∙ sym (none_has x)
+    word_at false false v h k is calm x at size =
+        with_attribute is _ (λ t. contains (32 ∷ (normalized t ++ 32 ∷ [])) (32 ∷ (v ++ 32 ∷ []))) x (at_word v x) at size
+        ∙ lists.any_same _ _ (λ r. guarded (is_attribute_of doc x n r) _ _ (λ i. word_between (row doc r).text v (calm r (and_parts (is_attribute doc r) _ i).0) k h)) (rows doc)
+
+    pub word_is : IsDocument doc → NoFormFeed doc → (v : List ℕ) (x : ℕ) → Is doc (word_predicate a v) x (has_value doc x n (λ t. word_test t v))
+    word_is is calm v x = word_at (is_empty v) (list_any is_space5 v) v refl refl is calm x
