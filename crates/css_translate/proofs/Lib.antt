@@ -3,6 +3,7 @@ pub mod LinksNext
 pub mod Means
 pub mod MeansAll
 pub mod MeansAttributes
+pub mod MeansLang
 pub mod MeansNames
 pub mod MeansNth
 pub mod MeansParts

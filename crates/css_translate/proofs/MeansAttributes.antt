@@ -133,7 +133,7 @@ module _ (doc : Document) where
       all_same (λ r. test (row doc r).text) (test (row doc x).text) xs (λ y i. ap (λ v. test (row doc v).text) (one y x (lists.in_rest x y xs i) (lists.in_first x xs)))
       ∙ ap test (sym (attribute_value x (kind x (lists.in_first x xs))))
 
-  found_is : (x : ℕ) (n : List ℕ) (y : ℕ) → has y (found x n) ≡ true → is_attribute_of doc x n y ≡ true
+  pub found_is : (x : ℕ) (n : List ℕ) (y : ℕ) → has y (found x n) ≡ true → is_attribute_of doc x n y ≡ true
   found_is x n y h = (and_parts (is_attribute_of doc x n y) _ (sym (lists.in_filter (is_attribute_of doc x n) (rows doc) y) ∙ h)).0
 
   -- a test of the value: the attribute is there, and its string passes
