@@ -4,6 +4,8 @@ pub mod Means
 pub mod MeansAll
 pub mod MeansAttributes
 pub mod MeansLang
+pub mod MeansLanguage
+pub mod MeansLower
 pub mod MeansNames
 pub mod MeansNth
 pub mod MeansParts

@@ -97,14 +97,14 @@ module _ (doc : Document) where
     | inr past ↦ absurd (let none : false ≡ true = sym (ap (λ (v : Row). is_attribute_kind v.kind) (get_or_past doc r no_row past)) ∙ h in cc)
     ]
 
-  record IsOf (x : ℕ) (n : List ℕ) (r : ℕ) : Type 0 where
-    within : r < length doc
-    some : 0 < r
-    kind : (row doc r).kind ≡ Attribute
-    parent : (row doc r).parent ≡ x
-    name : (row doc r).name ≡ n
+  pub record IsOf (x : ℕ) (n : List ℕ) (r : ℕ) : Type 0 where
+    pub within : r < length doc
+    pub some : 0 < r
+    pub kind : (row doc r).kind ≡ Attribute
+    pub parent : (row doc r).parent ≡ x
+    pub name : (row doc r).name ≡ n
 
-  is_of : (x : ℕ) (n : List ℕ) (r : ℕ) → is_attribute_of doc x n r ≡ true → IsOf x n r
+  pub is_of : (x : ℕ) (n : List ℕ) (r : ℕ) → is_attribute_of doc x n r ≡ true → IsOf x n r
   is_of x n r h =
       let a : (is_attribute doc r ≡ true) × ((is_parent doc x r && bytes_eq (row doc r).name n) ≡ true) = and_parts (is_attribute doc r) _ h in
       let b : (is_parent doc x r ≡ true) × (bytes_eq (row doc r).name n ≡ true) = and_parts (is_parent doc x r) _ a.1 in

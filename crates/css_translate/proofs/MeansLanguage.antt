@@ -1,0 +1,160 @@
+-- The predicates on languages: the nearest attribute upwards decides.
+use Rattle.std.proofs.Common.{◌≡◌, ◌≢◌, refl, ℕ, zero, suc, ◌+◌, ◌-◌, ◌<◌, ◌≤◌, Bool, true, false, ◌&&◌, ◌||◌, not, cond, eqb, ltb, List, [], ◌∷◌, ◌++◌, length, ap, sym, ◌∙◌, subst, filter, map, reverse, arith, ◌⊎◌, inl, inr, lt-ltb, Option, Some, None}
+use Rattle.std.specs.Prelude.{codes, flat_map}
+use Rattle.std.specs.Char.{to_ascii_lowercase}
+use Rattle.std.specs.List.{list_any, range_with_len, position_from, slice_get}
+use Rattle.std.specs.Option.{option_to_list}
+use Rattle.std.specs.Str.{bytes_eq}
+use Rattle.std.proofs.lemmas.List.{reverse-append, append-nil}
+use Rattle.std.proofs.lemmas.Bool.{and_parts, and_from, eqb-true, eq-eqb, ltb-true, le-ltb, cases_lt, false_from_ne_true}
+use Rattle.std.proofs.lemmas.Bool.Decides.{eqb_tells}
+use Rattle.text_base.specs.Strings.{starts_with}
+use Rattle.doc_model.specs.declared.Kind.{Kind}
+use Rattle.doc_model.specs.declared.Kind.TheVariants.{Element}
+use Rattle.doc_model.specs.declared.Axis.TheVariants as axis
+use Rattle.doc_model.specs.declared.NodeTest.TheVariants as node
+use Rattle.doc_model.specs.Document.{Document, row, rows, is_element, is_attribute, is_element_kind, below, IsDocument}
+use Rattle.doc_model.specs.StringValue.{string_value}
+use Rattle.css_meaning.specs.declared.selector.Dialect.{Dialect}
+use Rattle.css_meaning.specs.declared.selector.Dialect.TheVariants.{Generic, Html}
+use Rattle.css_meaning.specs.Attributes.{is_attribute_of, has_value, has_attribute, lang_test, dash_test}
+use Rattle.css_meaning.specs.Language.{lang_name, gives_language, is_nearest_language, lang_holds}
+use Rattle.css_meaning.proofs.ListTests as lists
+use Rattle.xpath_values.specs.declared.value.Value.{Value}
+use Rattle.xpath_values.specs.declared.value.Value.TheVariants.{Nodes, Str, Bool as Truth}
+use Rattle.xpath_values.specs.Strings.{begins, translated, translated_char}
+use Rattle.xpath_parser.specs.declared.expression.Expr.{Expr}
+use Rattle.xpath_parser.specs.declared.expression.Expr.TheVariants as e
+use Rattle.xpath_parser.specs.declared.expression.Func.TheVariants as f
+use Rattle.xpath_parser.specs.Conversions.{is_any, text_of_rows}
+use Rattle.xpath_parser.specs.Functions.{Context, attributes_named, is_language, language_of, language_at, lang}
+use Rattle.xpath_parser.specs.Denote.{has, denote}
+use Rattle.css_translate.specs.Predicates.{literal, lang_predicate}
+use Rattle.css_translate.proofs.PathsKept.{Is}
+use Rattle.css_translate.proofs.MeansValues.{Value_at, is_truth, any_kept, at_call_one}
+use Rattle.css_translate.proofs.MeansNames.{at_text}
+use Rattle.css_translate.proofs.MeansAttributes.{IsOf, is_of, flip, found, value_is, found_is, attribute_value, begins_starts}
+use Rattle.css_translate.proofs.MeansParts.{self_any}
+use Rattle.css_translate.proofs.Paths.{found_in}
+use Rattle.doc_model.specs.Axes.{on_axis}
+use Rattle.css_translate.proofs.LinksNext.{first_of}
+use Rattle.css_translate.proofs.MeansLang.{last_of, first_reversed, has_last}
+
+last_in : (xs : List ℕ) (y : ℕ) → has y (last_of xs) ≡ true → has y xs ≡ true
+last_in [] y h = h
+last_in (x ∷ xs) y h = at (is_any xs) h (last_in xs y)
+  where
+    at : (b : Bool) → has y (cond b (last_of xs) (x ∷ [])) ≡ true → (has y (last_of xs) ≡ true → has y xs ≡ true) → (eqb x y || has y xs) ≡ true
+    at true h more = lists.in_rest x y xs (more h)
+    at false h more = ap (λ b. b || has y xs) (sym (lists.or_false (eqb x y)) ∙ h)
+
+-- one test by its two names
+language_same : (doc : Document) (x t : List ℕ) → is_language doc x t ≡ lang_test t x
+language_same doc x t = ap (λ b. bytes_eq (map to_ascii_lowercase t) (map to_ascii_lowercase x) || b) (begins_starts (map to_ascii_lowercase t) (map to_ascii_lowercase x ++ codes "-"))
+
+module _ (doc : Document) where
+  members_any : (q : ℕ → Bool) (xs : List ℕ) → ((x : ℕ) → has x xs ≡ true → has x (rows doc) ≡ true) → list_any (λ z. has z xs && q z) (rows doc) ≡ list_any q xs
+  members_any q [] h = lists.any_none (rows doc)
+  members_any q (x ∷ xs) h =
+      lists.any_same _ _ (λ z. lists.and_or (eqb x z) (has z xs) (q z)) (rows doc)
+      ∙ lists.any_or (λ z. eqb x z && q z) (λ z. has z xs && q z) (rows doc)
+      ∙ ap (λ b. b || list_any (λ z. has z xs && q z) (rows doc)) (lists.any_same _ _ (λ z. ap (λ b. b && q z) (flip x z)) (rows doc) ∙ self_any doc q x (h x (lists.in_first x xs)))
+      ∙ ap (λ b. q x || b) (members_any q xs (λ y i. h y (lists.in_rest x y xs i)))
+
+  -- the row that decides, if there is one
+  abbrev nearest : Dialect → ℕ → List ℕ
+  nearest d x = last_of (filter (gives_language doc d x) (rows doc))
+
+  nearest_row : (d : Dialect) (x z : ℕ) → has z (nearest d x) ≡ true → has z (rows doc) ≡ true
+  nearest_row d x z h = (and_parts (gives_language doc d x z) _ (sym (lists.in_filter (gives_language doc d x) (rows doc) z) ∙ last_in (filter (gives_language doc d x) (rows doc)) z h)).1
+
+  nearest_gives : (d : Dialect) (x z : ℕ) → has z (nearest d x) ≡ true → gives_language doc d x z ≡ true
+  nearest_gives d x z h = (and_parts (gives_language doc d x z) _ (sym (lists.in_filter (gives_language doc d x) (rows doc) z) ∙ last_in (filter (gives_language doc d x) (rows doc)) z h)).0
+
+  abbrev says : Dialect → List ℕ → ℕ → Bool
+  says d v z = has_value doc z (lang_name d) (λ t. lang_test t v)
+
+  lang_nearest : (d : Dialect) (v : List ℕ) (x : ℕ) → list_any (says d v) (nearest d x) ≡ lang_holds doc d v x
+  lang_nearest d v x =
+      sym (members_any (says d v) (nearest d x) (nearest_row d x))
+      ∙ lists.any_among _ _ (rows doc) (λ z among. ap (λ b. b && says d v z) (has_last doc (gives_language doc d x) z among))
+
+  -- ---- XPath's own test
+
+  language_first : (v : List ℕ) (xs : List ℕ) → language_at doc v xs ≡ list_any (λ y. language_of doc v (attributes_named doc (codes "xml:lang") y)) (first_of xs)
+  language_first v [] = refl
+  language_first v (y ∷ ys) = sym (lists.or_false (language_of doc v (attributes_named doc (codes "xml:lang") y)))
+
+  language_list : (v : List ℕ) (xs : List ℕ) → ((y : ℕ) → has y xs ≡ true → is_attribute doc y ≡ true) → language_of doc v xs ≡ (is_any xs && lang_test (text_of_rows doc xs) v)
+  language_list v [] h = refl
+  language_list v (z ∷ zs) h = language_same doc v (row doc z).text ∙ ap (λ t. lang_test t v) (sym (attribute_value doc z (h z (lists.in_first z zs))))
+
+  language_value : IsDocument doc → (v n : List ℕ) (y : ℕ) → language_of doc v (attributes_named doc n y) ≡ has_value doc y n (λ t. lang_test t v)
+  language_value is v n y = language_list v (found doc y n) (λ z i. (and_parts (is_attribute doc z) _ (found_is doc y n z i)).0) ∙ sym (value_is doc is y n (λ t. lang_test t v))
+
+  there : (n : List ℕ) (x : ℕ) → is_any (found doc x n) ≡ has_attribute doc x n
+  there n x = any_kept (is_attribute_of doc x n) (rows doc) ∙ lists.any_same _ _ (λ r. sym (lists.and_true (is_attribute_of doc x n r))) (rows doc)
+
+  lang_same : IsDocument doc → (v : List ℕ) (x : ℕ) → lang doc v x ≡ lang_holds doc Generic v x
+  lang_same is v x =
+      ap (λ xs. language_at doc v (reverse xs)) (lists.filter_same _ _ (λ y. ap (λ b. ((eqb y x) || below doc y x) && b) (there (codes "xml:lang") y)) (rows doc))
+      ∙ language_first v (reverse (filter (gives_language doc Generic x) (rows doc)))
+      ∙ ap (λ xs. list_any (λ y. language_of doc v (attributes_named doc (codes "xml:lang") y)) xs) (first_reversed (filter (gives_language doc Generic x) (rows doc)))
+      ∙ lists.any_same _ _ (λ y. language_value is v (codes "xml:lang") y) (nearest Generic x)
+      ∙ lang_nearest Generic v x
+
+  pub lang_generic_is : IsDocument doc → (v : List ℕ) (x : ℕ) → Is doc (e.Call f.Lang (literal v ∷ [])) x (lang_holds doc Generic v x)
+  lang_generic_is is v x at size =
+      is_truth doc (e.Call f.Lang (literal v ∷ [])) x (lang doc v x) (at_call_one doc f.Lang (literal v) x (Str v) (at_text doc v x)) at size ∙ lang_same is v x
+
+  -- ---- by the template of the HTML dialect
+
+  filter_last_at : (p : ℕ → Bool) (y : ℕ) (ys rest : List ℕ) (b : Bool) → filter p (ys ++ rest) ≡ filter p ys ++ filter p rest
+      → cond b (y ∷ filter p (ys ++ rest)) (filter p (ys ++ rest)) ≡ cond b (y ∷ filter p ys) (filter p ys) ++ filter p rest
+  filter_last_at p y ys rest true h = ap (λ r. y ∷ r) h
+  filter_last_at p y ys rest false h = h
+
+  filter_last : (p : ℕ → Bool) (ys rest : List ℕ) → filter p (ys ++ rest) ≡ filter p ys ++ filter p rest
+  filter_last p [] rest = refl
+  filter_last p (y ∷ ys) rest = filter_last_at p y ys rest (p y) (filter_last p ys rest)
+
+  filter_reversed : (p : ℕ → Bool) (xs : List ℕ) → filter p (reverse xs) ≡ reverse (filter p xs)
+  filter_reversed p [] = refl
+  filter_reversed p (x ∷ xs) =
+      ap (filter p) (reverse-append (x ∷ []) xs) ∙ filter_last p (reverse xs) (x ∷ []) ∙ ap (λ r. r ++ filter p (x ∷ [])) (filter_reversed p xs) ∙ at (p x)
+    where
+      at : (b : Bool) → reverse (filter p xs) ++ cond b (x ∷ []) [] ≡ reverse (cond b (x ∷ filter p xs) (filter p xs))
+      at true = sym (reverse-append (x ∷ []) (filter p xs))
+      at false = append-nil (reverse (filter p xs))
+
+  -- only elements have attributes
+  owner : IsDocument doc → (n : List ℕ) (y : ℕ) → has_attribute doc y n ≡ true → is_element doc y ≡ true
+  owner is n y h =
+      let w : (r : ℕ) × (has r (rows doc) ≡ true) × ((is_attribute_of doc y n r && true) ≡ true) = found_in (λ r. is_attribute_of doc y n r && true) (rows doc) h in
+      let o : IsOf doc y n w.0 = is_of doc y n w.0 (and_parts (is_attribute_of doc y n w.0) _ w.2).0 in
+      ap (λ v. is_element doc v) (sym o.parent) ∙ ap is_element_kind ((is.rest w.0 o.some o.within).attribute o.kind).1
+
+  abbrev html_name : List ℕ
+  html_name = codes "lang"
+
+  abbrev upward : ℕ → ℕ → Bool
+  upward x y = on_axis doc axis.AncestorOrSelf x y && is_element doc y
+
+  gives_same : IsDocument doc → (x y : ℕ) → (upward x y && has_attribute doc y html_name) ≡ gives_language doc Html x y
+  gives_same is x y = at (has_attribute doc y html_name) refl
+    where
+      at : (b : Bool) → has_attribute doc y html_name ≡ b → (upward x y && has_attribute doc y html_name) ≡ gives_language doc Html x y
+      at true h = ap (λ b. (on_axis doc axis.AncestorOrSelf x y && b) && has_attribute doc y html_name) (owner is html_name y h) ∙ ap (λ b. b && has_attribute doc y html_name) (lists.and_true _)
+      at false h = ap (λ b. upward x y && b) h ∙ lists.and_false _ ∙ sym (lists.and_false _) ∙ ap (λ b. (eqb y x || below doc y x) && b) (sym h)
+
+  -- ---- the attribute begins with the language
+
+  dashes : (s t : List ℕ) → starts_with (s ++ 45 ∷ []) (t ++ 45 ∷ []) ≡ (bytes_eq s t || starts_with s (t ++ 45 ∷ []))
+  dashes [] [] = refl
+  dashes [] (b ∷ t) = ap (λ v. eqb 45 b && v) (none t) ∙ lists.and_false (eqb 45 b)
+    where
+      none : (t : List ℕ) → starts_with [] (t ++ 45 ∷ []) ≡ false
+      none [] = refl
+      none (b ∷ t) = refl
+  dashes (a ∷ s) [] = refl
+  dashes (a ∷ s) (b ∷ t) = ap (λ v. eqb a b && v) (dashes s t) ∙ lists.and_or_left (eqb a b) (bytes_eq s t) (starts_with s (t ++ 45 ∷ []))
