@@ -28,16 +28,20 @@ use Rattle.xpath_parser.specs.declared.expression.Expr.TheVariants as e
 use Rattle.xpath_parser.specs.declared.expression.Func.TheVariants as f
 use Rattle.xpath_parser.specs.Conversions.{is_any, text_of_rows}
 use Rattle.xpath_parser.specs.Functions.{Context, attributes_named, is_language, language_of, language_at, lang}
-use Rattle.xpath_parser.specs.Denote.{has, denote}
-use Rattle.css_translate.specs.Predicates.{literal, lang_predicate}
-use Rattle.css_translate.proofs.PathsKept.{Is}
-use Rattle.css_translate.proofs.MeansValues.{Value_at, is_truth, any_kept, at_call_one}
-use Rattle.css_translate.proofs.MeansNames.{at_text}
+use Rattle.xpath_parser.specs.Denote.{has, denote, kept, rows_in, walk_of, path as walked}
+use Rattle.xpath_parser.proofs.Equations as eq
+use Rattle.xpath_parser.proofs.Equations.{at_made}
+use Rattle.xpath_parser.specs.declared.expression.Start.TheVariants.{Here}
+use Rattle.css_translate.specs.Predicates.{step, path, number, literal, plain_attribute, lang_begins, lang_predicate}
+use Rattle.css_translate.proofs.PathsKept.{Is, Keep, keep_one, filter_twice}
+use Rattle.css_translate.proofs.MeansLower.{translated_lower}
+use Rattle.css_translate.proofs.MeansValues.{Value_at, is_truth, is_nodes, any_kept, at_call_one, at_call_two, at_call_three}
+use Rattle.css_translate.proofs.MeansNames.{at_text, at_plain_attribute}
 use Rattle.css_translate.proofs.MeansAttributes.{IsOf, is_of, flip, found, value_is, found_is, attribute_value, begins_starts}
 use Rattle.css_translate.proofs.MeansParts.{self_any}
 use Rattle.css_translate.proofs.Paths.{found_in}
 use Rattle.doc_model.specs.Axes.{on_axis}
-use Rattle.css_translate.proofs.LinksNext.{first_of}
+use Rattle.css_translate.proofs.LinksNext.{first_of, one_kept}
 use Rattle.css_translate.proofs.MeansLang.{last_of, first_reversed, has_last}
 
 last_in : (xs : List ℕ) (y : ℕ) → has y (last_of xs) ≡ true → has y xs ≡ true
@@ -158,3 +162,74 @@ module _ (doc : Document) where
       none (b ∷ t) = refl
   dashes (a ∷ s) [] = refl
   dashes (a ∷ s) (b ∷ t) = ap (λ v. eqb a b && v) (dashes s t) ∙ lists.and_or_left (eqb a b) (bytes_eq s t) (starts_with s (t ++ 45 ∷ []))
+
+  begins_is : (v : List ℕ) (y : ℕ) → Value_at doc (lang_begins v) y
+      (Truth (lang_test (text_of_rows doc (found doc y html_name)) v))
+  begins_is v y at size =
+      at_call_two doc f.StartsWith
+      (e.Call f.Concat (e.Call f.Translate (plain_attribute html_name ∷ literal (codes "ABCDEFGHIJKLMNOPQRSTUVWXYZ") ∷ literal (codes "abcdefghijklmnopqrstuvwxyz") ∷ []) ∷ literal (codes "-") ∷ []))
+      (literal (map to_ascii_lowercase v ++ codes "-")) y
+      (Str (translated (text_of_rows doc (found doc y html_name)) (codes "ABCDEFGHIJKLMNOPQRSTUVWXYZ") (codes "abcdefghijklmnopqrstuvwxyz") ++ codes "-")) (Str (map to_ascii_lowercase v ++ codes "-"))
+      (at_call_two doc f.Concat (e.Call f.Translate (plain_attribute html_name ∷ literal (codes "ABCDEFGHIJKLMNOPQRSTUVWXYZ") ∷ literal (codes "abcdefghijklmnopqrstuvwxyz") ∷ [])) (literal (codes "-")) y
+      (Str (translated (text_of_rows doc (found doc y html_name)) (codes "ABCDEFGHIJKLMNOPQRSTUVWXYZ") (codes "abcdefghijklmnopqrstuvwxyz"))) (Str (codes "-"))
+      (at_call_three doc f.Translate (plain_attribute html_name) (literal (codes "ABCDEFGHIJKLMNOPQRSTUVWXYZ")) (literal (codes "abcdefghijklmnopqrstuvwxyz")) y
+      (Nodes (found doc y html_name)) (Str (codes "ABCDEFGHIJKLMNOPQRSTUVWXYZ")) (Str (codes "abcdefghijklmnopqrstuvwxyz"))
+      (at_plain_attribute doc html_name y) (at_text doc (codes "ABCDEFGHIJKLMNOPQRSTUVWXYZ") y) (at_text doc (codes "abcdefghijklmnopqrstuvwxyz") y))
+      (at_text doc (codes "-") y))
+      (at_text doc (map to_ascii_lowercase v ++ codes "-") y) at size
+      ∙ ap Truth (begins_starts (translated (text_of_rows doc (found doc y html_name)) (codes "ABCDEFGHIJKLMNOPQRSTUVWXYZ") (codes "abcdefghijklmnopqrstuvwxyz") ++ codes "-") (map to_ascii_lowercase v ++ codes "-")
+      ∙ ap (λ s. starts_with (s ++ codes "-") (map to_ascii_lowercase v ++ codes "-")) (translated_lower (text_of_rows doc (found doc y html_name)))
+      ∙ dashes (map to_ascii_lowercase (text_of_rows doc (found doc y html_name))) (map to_ascii_lowercase v))
+
+  -- where the attribute is there, its value decides
+  says_is : IsDocument doc → (v : List ℕ) (y : ℕ) → has_attribute doc y html_name ≡ true → Is doc (lang_begins v) y (says Html v y)
+  says_is is v y h at size =
+      is_truth doc (lang_begins v) y _ (begins_is v y) at size
+      ∙ ap (λ b. b && lang_test (text_of_rows doc (found doc y html_name)) v) (sym (there html_name y ∙ h)) ∙ sym (value_is doc is y html_name (λ t. lang_test t v))
+
+  keep_there : Keep doc (λ y. true) (plain_attribute html_name ∷ []) (λ y. has_attribute doc y html_name)
+  keep_there = keep_one doc (λ y. true) (plain_attribute html_name) (λ y. has_attribute doc y html_name) (λ y i at size.
+      is_nodes doc (plain_attribute html_name) y (found doc y html_name) (at_plain_attribute doc html_name y) at size ∙ there html_name y)
+
+  keep_says : IsDocument doc → (v : List ℕ) → Keep doc (λ y. has_attribute doc y html_name) (lang_begins v ∷ []) (says Html v)
+  keep_says is v = keep_one doc (λ y. has_attribute doc y html_name) (lang_begins v) (says Html v) (λ y i. says_is is v y i)
+
+  -- the step gives the row that decides, where it says the language
+  html_walk : IsDocument doc → (v : List ℕ) (x : ℕ)
+      → walk_of doc (step axis.AncestorOrSelf node.AnyName (plain_attribute html_name ∷ number 1 ∷ lang_begins v ∷ [])) x ≡ filter (says Html v) (nearest Html x)
+  html_walk is v x =
+      at_made doc axis.AncestorOrSelf node.AnyName (plain_attribute html_name ∷ number 1 ∷ lang_begins v ∷ []) x
+      ∙ ap (kept (map (denote doc) (number 1 ∷ lang_begins v ∷ []))) (keep_there (reverse (filter (upward x) (rows doc))) (λ z i. refl) ∙ turned)
+      ∙ ap (kept (map (denote doc) (lang_begins v ∷ []))) (one_kept doc (length (reverse (filter (gives_language doc Html x) (rows doc)))) (reverse (filter (gives_language doc Html x) (rows doc)))
+      ∙ first_reversed (filter (gives_language doc Html x) (rows doc)))
+      ∙ keep_says is v (nearest Html x) (λ z i. (and_parts ((eqb z x) || below doc z x) _ (nearest_gives Html x z i)).1)
+    where
+      turned : filter (λ y. has_attribute doc y html_name) (reverse (filter (upward x) (rows doc))) ≡ reverse (filter (gives_language doc Html x) (rows doc))
+      turned = filter_reversed (λ y. has_attribute doc y html_name) (filter (upward x) (rows doc))
+          ∙ ap reverse (filter_twice (upward x) (λ y. has_attribute doc y html_name) (rows doc) ∙ lists.filter_same _ _ (λ y. gives_same is x y) (rows doc))
+
+  swap : (a b : Bool) → (a && b) ≡ (b && a)
+  swap true true = refl
+  swap true false = refl
+  swap false true = refl
+  swap false false = refl
+
+  at_html : IsDocument doc → (v : List ℕ) (x : ℕ) → Value_at doc (path axis.AncestorOrSelf node.AnyName (plain_attribute html_name ∷ number 1 ∷ lang_begins v ∷ [])) x
+      (Nodes (filter (λ y. has y (filter (says Html v) (nearest Html x)) || false) (rows doc)))
+  unfolding rows_in
+  at_html is v x at size =
+      eq.at_path doc Here (step axis.AncestorOrSelf node.AnyName (plain_attribute html_name ∷ number 1 ∷ lang_begins v ∷ []) ∷ []) (record { row = x; position = at; size = size })
+      ∙ ap (λ xs. Nodes (walked doc xs (walk_of doc (step axis.AncestorOrSelf node.AnyName (plain_attribute html_name ∷ number 1 ∷ lang_begins v ∷ [])) ∷ []))) (eq.at_here doc (record { row = x; position = at; size = size }))
+      ∙ ap (λ w. Nodes (filter (λ y. has y w || false) (rows doc))) (html_walk is v x)
+
+  pub lang_html_is : IsDocument doc → (v : List ℕ) (x : ℕ) → Is doc (path axis.AncestorOrSelf node.AnyName (plain_attribute html_name ∷ number 1 ∷ lang_begins v ∷ [])) x (lang_holds doc Html v x)
+  lang_html_is is v x at size =
+      is_nodes doc (path axis.AncestorOrSelf node.AnyName (plain_attribute html_name ∷ number 1 ∷ lang_begins v ∷ [])) x _ (at_html is v x) at size
+      ∙ any_kept (λ y. has y (filter (says Html v) (nearest Html x)) || false) (rows doc)
+      ∙ lists.any_same _ _ (λ y. lists.or_false _ ∙ lists.in_filter (says Html v) (nearest Html x) y ∙ swap (says Html v y) (has y (nearest Html x))) (rows doc)
+      ∙ members_any (says Html v) (nearest Html x) (nearest_row Html x)
+      ∙ lang_nearest Html v x
+
+  pub lang_is : IsDocument doc → (d : Dialect) (v : List ℕ) (x : ℕ) → Is doc (lang_predicate d v) x (lang_holds doc d v x)
+  lang_is is Generic v x = lang_generic_is is v x
+  lang_is is Html v x = lang_html_is is v x
