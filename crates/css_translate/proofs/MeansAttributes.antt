@@ -1,22 +1,18 @@
 -- The predicates on attributes, of which an element has at most one of a name.
-use Rattle.std.proofs.Common.{◌≡◌, ◌≢◌, refl, ℕ, suc, ◌<◌, ◌≤◌, Bool, true, false, ◌&&◌, ◌||◌, not, cond, eqb, List, [], ◌∷◌, ◌++◌, length, take, ap, sym, ◌∙◌, subst, filter, map, arith, ◌⊎◌, inl, inr, ltb, Option, Some, None}
-use Rattle.std.specs.Prelude.{codes, nat_eq}
-use Rattle.std.specs.List.{list_any, list_all}
+use Rattle.std.proofs.Common.{◌≡◌, refl, ℕ, ◌<◌, Bool, true, false, ◌&&◌, ◌||◌, not, cond, eqb, List, [], ◌∷◌, ◌++◌, length, ap, sym, ◌∙◌, subst, filter, arith, inl, inr, ltb, Option, Some, None}
+use Rattle.std.specs.Prelude.{codes}
+use Rattle.std.specs.List.{list_any}
 use Rattle.std.specs.Str.{bytes_eq}
-use Rattle.std.proofs.lemmas.Bool.{and_parts, and_from, eqb-true, eq-eqb, ltb-true, cases_lt}
+use Rattle.std.proofs.lemmas.Bool.{and_parts, eqb-true, eq-eqb, ltb-true, cases_lt}
 use Rattle.std.proofs.lemmas.List.{get_or_past}
 use Rattle.text_base.specs.Strings.{is_empty, starts_with, contains}
 use Rattle.doc_model.specs.declared.Kind.{Kind}
 use Rattle.doc_model.specs.declared.Kind.TheVariants.{Root, Element, Attribute, Text, Comment}
-use Rattle.doc_model.specs.Document.{Document, Row, no_row, row, rows, is_element, is_attribute, is_attribute_kind, is_parent, IsDocument, IsRow}
+use Rattle.doc_model.specs.Document.{Document, Row, no_row, row, rows, is_attribute, is_attribute_kind, is_parent, IsDocument}
 use Rattle.doc_model.specs.StringValue.{string_value, string_value_of}
-use Rattle.css_meaning.specs.declared.selector.Dialect.{Dialect}
-use Rattle.css_meaning.specs.declared.selector.Op.{Op}
-use Rattle.css_meaning.specs.declared.selector.Op.TheVariants as op
-use Rattle.css_meaning.specs.Attributes.{suffix_test, word_test, is_attribute_of, has_value, has_attribute, op_test, dash_test, prefix_test, substring_test}
+use Rattle.css_meaning.specs.Attributes.{suffix_test, word_test, is_attribute_of, has_value, has_attribute, dash_test, prefix_test, substring_test}
 use Rattle.css_meaning.proofs.ListTests as lists
 use Rattle.css_meaning.proofs.Values.{same_means}
-use Rattle.xpath_values.specs.declared.value.Value.{Value}
 use Rattle.xpath_values.specs.declared.value.Value.TheVariants.{Nodes, Num, Str, Bool as Truth}
 use Rattle.xpath_values.specs.declared.value.Compare.TheVariants as compare
 use Rattle.xpath_values.specs.Strings.{substring_from, normalized, begins, place_of, is_found, one_more, str_contains}
@@ -24,10 +20,8 @@ use Rattle.xpath_parser.specs.declared.expression.Expr.{Expr}
 use Rattle.xpath_parser.specs.declared.expression.Expr.TheVariants as e
 use Rattle.xpath_parser.specs.declared.expression.Func.TheVariants as f
 use Rattle.xpath_parser.specs.declared.expression.Infix.TheVariants as infix_of
-use Rattle.xpath_parser.specs.Conversions.{is_any, text_of, text_of_rows, truth_of}
-use Rattle.xpath_parser.specs.Functions.{Context}
-use Rattle.xpath_parser.specs.Denote.{has, denote, applied}
-use Rattle.xpath_parser.proofs.Equations as eq
+use Rattle.xpath_parser.specs.Conversions.{is_any, text_of_rows}
+use Rattle.xpath_parser.specs.Denote.{has}
 use Rattle.css_translate.specs.Predicates.{literal, equals, both, number, dash_predicate, prefix_predicate, substring_predicate, suffix_predicate, word_predicate, joins}
 use Rattle.css_translate.proofs.PathsKept.{Is}
 use Rattle.css_translate.proofs.MeansValues.{Value_at, is_truth, is_nodes, is_never, any_kept, at_two, at_both, at_either, at_call_one, at_call_two, at_call_three, at_number}
@@ -93,9 +87,9 @@ module _ (doc : Document) where
 
   within : (r : ℕ) → is_attribute doc r ≡ true → r < length doc
   within r h = elim (cases_lt r (length doc)) [
-      inl l ↦ l
+    | inl l ↦ l
     | inr past ↦ absurd (let none : false ≡ true = sym (ap (λ (v : Row). is_attribute_kind v.kind) (get_or_past doc r no_row past)) ∙ h in cc)
-    ]
+  ]
 
   pub record IsOf (x : ℕ) (n : List ℕ) (r : ℕ) : Type 0 where
     pub within : r < length doc
@@ -117,9 +111,9 @@ module _ (doc : Document) where
   -- a document has at most one attribute of a name at an element
   only_one : IsDocument doc → (x : ℕ) (n : List ℕ) (y z : ℕ) → IsOf x n y → IsOf x n z → y ≡ z
   only_one is x n y z a b = elim (cases_lt y z) [
-      inl l ↦ absurd (apart is x n y z a b l)
+    | inl l ↦ absurd (apart is x n y z a b l)
     | inr ge ↦ elim (cases_lt z y) [ inl l ↦ absurd (apart is x n z y b a l) | inr le ↦ omega arith ]
-    ]
+  ]
 
   all_same : (q : ℕ → Bool) (b : Bool) (xs : List ℕ) → ((y : ℕ) → has y xs ≡ true → q y ≡ b) → (b || list_any q xs) ≡ b
   all_same q b [] h = lists.or_false b

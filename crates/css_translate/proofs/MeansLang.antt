@@ -1,35 +1,15 @@
 -- The language of an element: what the nearest attribute upwards says.
-use Rattle.std.proofs.Common.{◌≡◌, ◌≢◌, refl, ℕ, zero, suc, ◌+◌, ◌<◌, ◌≤◌, Bool, true, false, ◌&&◌, ◌||◌, not, cond, eqb, ltb, List, [], ◌∷◌, ◌++◌, length, ap, sym, ◌∙◌, subst, filter, map, reverse, arith, ◌⊎◌, inl, inr, lt-ltb, append_assoc}
-use Rattle.std.specs.Prelude.{codes}
-use Rattle.std.specs.Char.{to_ascii_lowercase}
+use Rattle.std.proofs.Common.{◌≡◌, ◌≢◌, refl, ℕ, zero, suc, ◌+◌, ◌<◌, ◌≤◌, Bool, true, false, ◌&&◌, ◌||◌, not, cond, eqb, ltb, List, [], ◌∷◌, ◌++◌, length, ap, sym, ◌∙◌, filter, reverse, arith, ◌⊎◌, inl, inr, lt-ltb}
 use Rattle.std.specs.List.{list_any, range_with_len}
-use Rattle.std.specs.Str.{bytes_eq}
 use Rattle.std.proofs.lemmas.List.{reverse-append}
-use Rattle.std.proofs.lemmas.Bool.{and_parts, and_from, eqb-true, eq-eqb, ltb-true, le-ltb, false_from_ne_true}
+use Rattle.std.proofs.lemmas.Bool.{eqb-true, le-ltb, false_from_ne_true}
 use Rattle.std.proofs.lemmas.Bool.Decides.{eqb_tells}
-use Rattle.text_base.specs.Strings.{starts_with}
-use Rattle.doc_model.specs.Document.{Document, row, rows, is_element, is_attribute, below, IsDocument}
-use Rattle.css_meaning.specs.declared.selector.Dialect.{Dialect}
-use Rattle.css_meaning.specs.declared.selector.Dialect.TheVariants.{Generic, Html}
-use Rattle.css_meaning.specs.Attributes.{is_attribute_of, has_value, has_attribute, lang_test, dash_test}
-use Rattle.css_meaning.specs.Language.{lang_name, gives_language, is_nearest_language, lang_holds}
+use Rattle.doc_model.specs.Document.{Document, rows}
 use Rattle.css_meaning.proofs.ListTests as lists
 use Rattle.css_meaning.proofs.Finding.{found as found_among}
-use Rattle.xpath_values.specs.declared.value.Value.{Value}
-use Rattle.xpath_values.specs.declared.value.Value.TheVariants.{Nodes, Str, Bool as Truth}
-use Rattle.xpath_values.specs.Strings.{begins}
-use Rattle.xpath_parser.specs.declared.expression.Expr.{Expr}
-use Rattle.xpath_parser.specs.declared.expression.Expr.TheVariants as e
-use Rattle.xpath_parser.specs.declared.expression.Func.TheVariants as f
-use Rattle.xpath_parser.specs.Conversions.{is_any, text_of_rows}
-use Rattle.xpath_parser.specs.Functions.{Context, attributes_named, is_language, language_of, language_at, lang}
-use Rattle.xpath_parser.specs.Denote.{has, denote}
-use Rattle.css_translate.specs.Predicates.{literal, lang_predicate}
-use Rattle.css_translate.proofs.PathsKept.{Is}
-use Rattle.css_translate.proofs.MeansValues.{Value_at, is_truth, any_kept, at_call_one}
-use Rattle.css_translate.proofs.MeansNames.{at_text}
-use Rattle.css_translate.proofs.MeansAttributes.{flip, found, value_is, found_is, attribute_value, begins_starts}
-use Rattle.css_translate.proofs.MeansParts.{self_any}
+use Rattle.xpath_parser.specs.Conversions.{is_any}
+use Rattle.xpath_parser.specs.Denote.{has}
+use Rattle.css_translate.proofs.MeansValues.{any_kept}
 use Rattle.css_translate.proofs.LinksNext.{first_of}
 
 -- ---- the last of a list

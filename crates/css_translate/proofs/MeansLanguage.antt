@@ -1,33 +1,26 @@
 -- The predicates on languages: the nearest attribute upwards decides.
-use Rattle.std.proofs.Common.{◌≡◌, ◌≢◌, refl, ℕ, zero, suc, ◌+◌, ◌-◌, ◌<◌, ◌≤◌, Bool, true, false, ◌&&◌, ◌||◌, not, cond, eqb, ltb, List, [], ◌∷◌, ◌++◌, length, ap, sym, ◌∙◌, subst, filter, map, reverse, arith, ◌⊎◌, inl, inr, lt-ltb, Option, Some, None}
-use Rattle.std.specs.Prelude.{codes, flat_map}
+use Rattle.std.proofs.Common.{◌≡◌, refl, ℕ, Bool, true, false, ◌&&◌, ◌||◌, cond, eqb, List, [], ◌∷◌, ◌++◌, length, ap, sym, ◌∙◌, filter, map, reverse}
+use Rattle.std.specs.Prelude.{codes}
 use Rattle.std.specs.Char.{to_ascii_lowercase}
-use Rattle.std.specs.List.{list_any, range_with_len, position_from, slice_get}
-use Rattle.std.specs.Option.{option_to_list}
+use Rattle.std.specs.List.{list_any}
 use Rattle.std.specs.Str.{bytes_eq}
 use Rattle.std.proofs.lemmas.List.{reverse-append, append-nil}
-use Rattle.std.proofs.lemmas.Bool.{and_parts, and_from, eqb-true, eq-eqb, ltb-true, le-ltb, cases_lt, false_from_ne_true}
-use Rattle.std.proofs.lemmas.Bool.Decides.{eqb_tells}
+use Rattle.std.proofs.lemmas.Bool.{and_parts}
 use Rattle.text_base.specs.Strings.{starts_with}
-use Rattle.doc_model.specs.declared.Kind.{Kind}
-use Rattle.doc_model.specs.declared.Kind.TheVariants.{Element}
 use Rattle.doc_model.specs.declared.Axis.TheVariants as axis
 use Rattle.doc_model.specs.declared.NodeTest.TheVariants as node
 use Rattle.doc_model.specs.Document.{Document, row, rows, is_element, is_attribute, is_element_kind, below, IsDocument}
-use Rattle.doc_model.specs.StringValue.{string_value}
 use Rattle.css_meaning.specs.declared.selector.Dialect.{Dialect}
 use Rattle.css_meaning.specs.declared.selector.Dialect.TheVariants.{Generic, Html}
-use Rattle.css_meaning.specs.Attributes.{is_attribute_of, has_value, has_attribute, lang_test, dash_test}
-use Rattle.css_meaning.specs.Language.{lang_name, gives_language, is_nearest_language, lang_holds}
+use Rattle.css_meaning.specs.Attributes.{is_attribute_of, has_value, has_attribute, lang_test}
+use Rattle.css_meaning.specs.Language.{lang_name, gives_language, lang_holds}
 use Rattle.css_meaning.proofs.ListTests as lists
-use Rattle.xpath_values.specs.declared.value.Value.{Value}
 use Rattle.xpath_values.specs.declared.value.Value.TheVariants.{Nodes, Str, Bool as Truth}
-use Rattle.xpath_values.specs.Strings.{begins, translated, translated_char}
-use Rattle.xpath_parser.specs.declared.expression.Expr.{Expr}
+use Rattle.xpath_values.specs.Strings.{translated}
 use Rattle.xpath_parser.specs.declared.expression.Expr.TheVariants as e
 use Rattle.xpath_parser.specs.declared.expression.Func.TheVariants as f
 use Rattle.xpath_parser.specs.Conversions.{is_any, text_of_rows}
-use Rattle.xpath_parser.specs.Functions.{Context, attributes_named, is_language, language_of, language_at, lang}
+use Rattle.xpath_parser.specs.Functions.{attributes_named, is_language, language_of, language_at, lang}
 use Rattle.xpath_parser.specs.Denote.{has, denote, kept, rows_in, walk_of, path as walked}
 use Rattle.xpath_parser.proofs.Equations as eq
 use Rattle.xpath_parser.proofs.Equations.{at_made}

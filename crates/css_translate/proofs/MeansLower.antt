@@ -1,10 +1,10 @@
 -- `translate` from capital to small letters is ASCII lower case.
-use Rattle.std.proofs.Common.{◌≡◌, refl, ℕ, zero, suc, ◌+◌, ◌-◌, ◌<◌, ◌≤◌, Bool, true, false, cond, eqb, ltb, List, [], ◌∷◌, ◌++◌, ap, sym, ◌∙◌, map, arith, ◌⊎◌, inl, inr, lt-ltb, Option, Some, None}
-use Rattle.std.specs.Prelude.{codes, flat_map}
+use Rattle.std.proofs.Common.{◌≡◌, refl, ℕ, zero, suc, ◌+◌, ◌-◌, ◌<◌, ◌≤◌, false, cond, eqb, ltb, List, [], ◌∷◌, ◌++◌, ap, sym, ◌∙◌, map, arith, ◌⊎◌, inl, inr, lt-ltb, Some, None}
+use Rattle.std.specs.Prelude.{codes}
 use Rattle.std.specs.Char.{to_ascii_lowercase}
 use Rattle.std.specs.List.{range_with_len, position_from, slice_get}
 use Rattle.std.specs.Option.{option_to_list}
-use Rattle.std.proofs.lemmas.Bool.{le-ltb, cases_lt, eqb-true, eq-eqb, false_from_ne_true}
+use Rattle.std.proofs.lemmas.Bool.{le-ltb, cases_lt, eqb-true, false_from_ne_true}
 use Rattle.std.proofs.lemmas.Bool.Decides.{eqb_tells}
 use Rattle.xpath_values.specs.Strings.{translated, translated_char}
 
@@ -20,11 +20,11 @@ differ a b h = false_from_ne_true _ (λ t. h (eqb-true a b t))
 place_in : (c a i n : ℕ) → a ≤ c → c < a + n → position_from (λ d. eqb d c) i (range_with_len a n) ≡ Some (i + (c - a))
 place_in c a i zero low high = absurd (omega arith)
 place_in c a i (suc n) low high = elim (eqb_tells a c) [
-    | inl same ↦ (let e : i ≡ i + (c - a) = omega (arith, same.1) in
-        ap (λ b. cond b (Some i) (position_from (λ d. eqb d c) (i + 1) (range_with_len (a + 1) n))) same.0 ∙ ap (λ v. Some v) e)
-    | inr other ↦ (let ne : a ≡ c → ⊥ = other.1 in let more : a + 1 ≤ c = omega arith in let e : (i + 1) + (c - (a + 1)) ≡ i + (c - a) = omega arith in
-        ap (λ b. cond b (Some i) (position_from (λ d. eqb d c) (i + 1) (range_with_len (a + 1) n))) other.0 ∙ place_in c (a + 1) (i + 1) n more (omega arith) ∙ ap (λ v. Some v) e)
-  ]
+  | inl same ↦ (let e : i ≡ i + (c - a) = omega (arith, same.1) in
+      ap (λ b. cond b (Some i) (position_from (λ d. eqb d c) (i + 1) (range_with_len (a + 1) n))) same.0 ∙ ap (λ v. Some v) e)
+  | inr other ↦ (let ne : a ≡ c → ⊥ = other.1 in let more : a + 1 ≤ c = omega arith in let e : (i + 1) + (c - (a + 1)) ≡ i + (c - a) = omega arith in
+      ap (λ b. cond b (Some i) (position_from (λ d. eqb d c) (i + 1) (range_with_len (a + 1) n))) other.0 ∙ place_in c (a + 1) (i + 1) n more (omega arith) ∙ ap (λ v. Some v) e)
+]
 
 no_place : (c a i n : ℕ) → (c < a) ⊎ (a + n ≤ c) → position_from (λ d. eqb d c) i (range_with_len a n) ≡ None
 no_place c a i zero h = refl
@@ -40,10 +40,10 @@ letter_at a (suc n) (suc i) h = letter_at (a + 1) n i (omega arith) ∙ ap (λ v
 
 lower_char : (c : ℕ) → translated_char (position_from (λ d. eqb d c) 0 (range_with_len 65 26)) c (range_with_len 97 26) ≡ to_ascii_lowercase c ∷ []
 lower_char c = elim (cases_lt c 65) [
-    inl low ↦ ap (λ o. translated_char o c (range_with_len 97 26)) (no_place c 65 0 26 (inl low))
-        ∙ ap (λ b. cond b c (cond (ltb c 91) (c + 32) c) ∷ []) (sym (lt-ltb c 65 low))
+  | inl low ↦ ap (λ o. translated_char o c (range_with_len 97 26)) (no_place c 65 0 26 (inl low))
+      ∙ ap (λ b. cond b c (cond (ltb c 91) (c + 32) c) ∷ []) (sym (lt-ltb c 65 low))
   | inr ge ↦ elim (cases_lt c 91) [
-      inl within ↦ (let e : 97 + (0 + (c - 65)) ≡ c + 32 = omega arith in
+    | inl within ↦ (let e : 97 + (0 + (c - 65)) ≡ c + 32 = omega arith in
         ap (λ o. translated_char o c (range_with_len 97 26)) (place_in c 65 0 26 ge (omega arith))
         ∙ ap option_to_list (letter_at 97 26 (0 + (c - 65)) (omega arith)) ∙ ap (λ v. v ∷ []) e
         ∙ ap (λ b. cond false c (cond b (c + 32) c) ∷ []) (sym (lt-ltb c 91 within))
@@ -51,8 +51,8 @@ lower_char c = elim (cases_lt c 65) [
     | inr past ↦ ap (λ o. translated_char o c (range_with_len 97 26)) (no_place c 65 0 26 (inr (omega arith)))
         ∙ ap (λ b. cond false c (cond b (c + 32) c) ∷ []) (sym (le-ltb c 91 past))
         ∙ ap (λ b. cond b c (cond (ltb c 91) (c + 32) c) ∷ []) (sym (le-ltb c 65 ge))
-    ]
   ]
+]
 
 pub translated_lower : (s : List ℕ) → translated s (codes "ABCDEFGHIJKLMNOPQRSTUVWXYZ") (codes "abcdefghijklmnopqrstuvwxyz") ≡ map to_ascii_lowercase s
 translated_lower [] = refl

@@ -1,31 +1,26 @@
 -- The predicates that count siblings.
-use Rattle.std.proofs.Common.{◌≡◌, ◌≢◌, refl, ℕ, zero, suc, ◌+◌, ◌-◌, ◌%◌, ◌^◌, ◌<◌, ◌≤◌, Bool, true, false, ◌&&◌, ◌||◌, not, cond, eqb, ltb, List, [], ◌∷◌, ◌++◌, length, ap, sym, ◌∙◌, subst, filter, map, arith, ◌⊎◌, inl, inr, lt-ltb, Option, Some, None}
-use Rattle.std.specs.Prelude.{ℤ, pos, negsuc, nat_le, int_le, int_lt}
-use Rattle.std.specs.List.{list_any, list_all, AllByRecursion}
-use Rattle.std.specs.Str.{bytes_eq}
+use Rattle.std.proofs.Common.{◌≡◌, refl, ℕ, zero, suc, ◌%◌, ◌^◌, ◌<◌, ◌≤◌, Bool, true, false, cond, eqb, List, [], ◌∷◌, length, ap, sym, ◌∙◌, map, arith}
+use Rattle.std.specs.Prelude.{ℤ, pos, nat_le}
+use Rattle.std.specs.List.{AllByRecursion}
 use Rattle.std.specs.Ordering.{int_eq}
 use Rattle.std.specs.Cmp.{signed_Decides}
 use Rattle.std.proofs.Math.Nat.{mod-le}
-use Rattle.std.proofs.lemmas.Bool.{and_parts, and_from, eqb-true, eq-eqb, ltb-true}
+use Rattle.std.proofs.lemmas.Bool.{eqb-true, eq-eqb}
 use Rattle.std.proofs.lemmas.Bool.Decides.{nat_tests}
-use Rattle.xpath_values.specs.declared.value.XNum.{XNum}
 use Rattle.xpath_values.specs.declared.value.XNum.TheVariants.{Whole, NaN}
-use Rattle.xpath_values.specs.declared.value.Value.{Value}
-use Rattle.xpath_values.specs.declared.value.Value.TheVariants.{Nodes, Num, Str, Bool as Truth}
+use Rattle.xpath_values.specs.declared.value.Value.TheVariants.{Nodes, Num, Bool as Truth}
 use Rattle.xpath_values.specs.declared.value.Compare.{Compare}
 use Rattle.xpath_values.specs.declared.value.Compare.TheVariants as compare
-use Rattle.xpath_values.specs.Numbers.{whole, num_rem}
-use Rattle.xpath_values.specs.Compares.{num_fits}
+use Rattle.xpath_values.specs.Numbers.{whole}
 use Rattle.xpath_parser.specs.declared.expression.Expr.{Expr}
-use Rattle.xpath_parser.specs.declared.expression.Expr.TheVariants as e
 use Rattle.xpath_parser.specs.declared.expression.Func.TheVariants as f
 use Rattle.xpath_parser.specs.declared.expression.Infix.TheVariants as infix_of
 use Rattle.xpath_parser.specs.Denote.{applied}
 use Rattle.css_meaning.specs.Nth.{is_nth}
 use Rattle.css_meaning.specs.WellMade.{IsSmall}
-use Rattle.doc_model.specs.Document.{Document, rows}
+use Rattle.doc_model.specs.Document.{Document}
 use Rattle.css_translate.specs.Conditions.{Condition, never, exactly, at_least, at_most, every, conditions}
-use Rattle.css_translate.specs.Predicates.{number, count, joins, equals, condition_predicate}
+use Rattle.css_translate.specs.Predicates.{number, count, joins, condition_predicate}
 use Rattle.css_translate.proofs.PathsKept.{Is, Keep, keep_none, keep_one, keep_both, keep_same}
 use Rattle.css_translate.proofs.MeansValues.{Value_at, is_truth, is_never, at_two, at_number, at_call_one}
 use Rattle.css_translate.proofs.MeansPositions.{meets, meet_all, IsSmallCondition, conditions_nth, small_conditions}

@@ -1,15 +1,15 @@
 -- The conditions on the number of siblings are what `an+b` asks of the position.
-use Rattle.std.proofs.Common.{◌≡◌, refl, sym, ◌∙◌, ap, ℕ, zero, suc, ◌+◌, ◌-◌, ◌*◌, ◌/◌, ◌%◌, ◌^◌, ◌<◌, ◌≤◌, arith, ◌⊎◌, inl, inr, Bool, true, false, ◌&&◌, eqb, ltb, cond, List, [], ◌∷◌, ◌++◌}
-use Rattle.std.proofs.lemmas.Int.{ints, int_rem_euclid_is}
-use Rattle.std.proofs.lemmas.Bool.{and_parts, and_from, eqb-true, eq-eqb, ltb-true, cases_lt, ltb-false}
-use Rattle.std.specs.Prelude.{ℤ, pos, negsuc, ◌-ℤ◌, nat_le, unsigned_abs}
+use Rattle.std.proofs.Common.{◌≡◌, refl, sym, ◌∙◌, ap, ℕ, zero, suc, ◌+◌, ◌-◌, ◌*◌, ◌/◌, ◌%◌, ◌^◌, ◌<◌, ◌≤◌, arith, ◌⊎◌, inl, inr, Bool, true, false, ◌&&◌, eqb, ltb, cond, List, [], ◌∷◌}
+use Rattle.std.proofs.lemmas.Int.{ints}
+use Rattle.std.proofs.lemmas.Bool.{and_parts, and_from, eqb-true, eq-eqb, ltb-false}
+use Rattle.std.specs.Prelude.{ℤ, pos, negsuc, ◌-ℤ◌, nat_le}
 use Rattle.std.specs.List.{list_all, AllByRecursion}
 use Rattle.std.proofs.lemmas.Bool.Decides.{nat_tests}
 use Rattle.css_meaning.specs.WellMade.{IsSmall}
 use Rattle.css_meaning.specs.Nth.{IsNth, is_nth}
 use Rattle.css_meaning.proofs.Positions.{nth_law}
-use Rattle.css_translate.specs.Conditions.{Condition, never, exactly, at_least, at_most, every, remainder, every_from, from_position, conditions}
-use Rattle.std.proofs.Math.Nat.{mul-add-mod_self_left, mod-lt, div-add-mod, mul-mod_right, mod-eq_of_lt, mul-sub, add-mod, mod_self, mod-mod, mul-le-mul_left, zero-mod, sub-zero, add-zero, mod-eq-sub-mod}
+use Rattle.css_translate.specs.Conditions.{Condition, never, exactly, at_least, at_most, every, remainder, every_from, conditions}
+use Rattle.std.proofs.Math.Nat.{mul-add-mod_self_left, mod-lt, div-add-mod, mul-mod_right, mod-eq_of_lt, mul-sub, add-mod, mod_self, mod-eq-sub-mod}
 
 -- the quotients of two numbers with one remainder are in their order
 quotients : (a x y : ℕ) → 0 < a → x ≤ y → y % a ≡ x % a → a * (y / a - x / a) + x ≡ y
@@ -35,14 +35,15 @@ split_lt a b = grind arith
 -- two remainders whose sum with one more is divisible are opposite
 opposite_of : (a x y : ℕ) → x < a → y < a → (x + (y + 1)) % a ≡ 0 → x ≡ a - 1 - y
 opposite_of a x y lx ly h = elim (split_lt (x + (y + 1)) a) [
-    inl lt ↦ absurd (let e : (x + (y + 1)) % a ≡ x + (y + 1) = mod-eq_of_lt lt in omega arith)
+  | inl lt ↦ absurd (let e : (x + (y + 1)) % a ≡ x + (y + 1) = mod-eq_of_lt lt in omega arith)
   | inr ge ↦ elim (split_lt a (x + (y + 1))) [
-      inl gt ↦ absurd (
+    | inl gt ↦ absurd (
         let s : (x + (y + 1)) % a ≡ (x + (y + 1) - a) % a = mod-eq-sub-mod ge in
         let e : (x + (y + 1) - a) % a ≡ x + (y + 1) - a = mod-eq_of_lt (omega arith) in
         omega arith)
-    | inr le ↦ omega arith ]
+    | inr le ↦ omega arith
   ]
+]
 
 together_of : (a x y : ℕ) → 0 < a → y < a → x ≡ a - 1 - y → (x + (y + 1)) % a ≡ 0
 together_of a x y some ly h = let e : x + (y + 1) ≡ a = omega arith in ap (λ v. v % a) e ∙ mod_self a
@@ -169,16 +170,18 @@ meets_asked (pos (suc a)) (pos zero) c h =
 meets_asked (pos (suc a)) (pos (suc zero)) c h =
     (omega arith, every_asks a (remainder (pos 1 -ℤ pos 1) (suc a)) c (ltb 1 (suc a)) refl (mod_below _ 0 (suc a) (remainder_above 0 (suc a)) (omega arith)) h ∙ remainder_above 0 (suc a))
 meets_asked (pos (suc a)) (pos (suc (suc m))) c h =
-    let both : (nat_le (suc m) c ≡ true) × (meet_all (every_from (suc a) (pos (suc (suc m)))) c ≡ true) = and_parts (nat_le (suc m) c) _ h in
-    (at_least_from (suc m) c both.0,
-      every_asks a (remainder (pos (suc (suc m)) -ℤ pos 1) (suc a)) c (ltb 1 (suc a)) refl (mod_below _ (suc m) (suc a) (remainder_above (suc m) (suc a)) (omega arith)) both.1 ∙ remainder_above (suc m) (suc a))
+    let both : (nat_le (suc m) c ≡ true) × (meet_all (every_from (suc a) (pos (suc (suc m)))) c ≡ true) = and_parts (nat_le (suc m) c) _ h in (
+      at_least_from (suc m) c both.0,
+      every_asks a (remainder (pos (suc (suc m)) -ℤ pos 1) (suc a)) c (ltb 1 (suc a)) refl (mod_below _ (suc m) (suc a) (remainder_above (suc m) (suc a)) (omega arith)) both.1 ∙ remainder_above (suc m) (suc a),
+    )
 meets_asked (pos (suc a)) (negsuc m) c h =
     every_asks a (remainder (negsuc m -ℤ pos 1) (suc a)) c (ltb 1 (suc a)) refl (below_by _ (suc a) (suc m % suc a) (remainder_below m (suc a)) (omega arith)) h ∙ remainder_below m (suc a)
 meets_asked (negsuc a) (pos zero) c h = let x = h in cc
 meets_asked (negsuc a) (pos (suc m)) c h =
-    let both : (nat_le c m ≡ true) × (meet_all (every_from (suc a) (pos (suc m))) c ≡ true) = and_parts (nat_le c m) _ h in
-    (at_least_from c m both.0,
-      every_asks a (remainder (pos (suc m) -ℤ pos 1) (suc a)) c (ltb 1 (suc a)) refl (mod_below _ m (suc a) (remainder_above m (suc a)) (omega arith)) both.1 ∙ remainder_above m (suc a))
+    let both : (nat_le c m ≡ true) × (meet_all (every_from (suc a) (pos (suc m))) c ≡ true) = and_parts (nat_le c m) _ h in (
+      at_least_from c m both.0,
+      every_asks a (remainder (pos (suc m) -ℤ pos 1) (suc a)) c (ltb 1 (suc a)) refl (mod_below _ m (suc a) (remainder_above m (suc a)) (omega arith)) both.1 ∙ remainder_above m (suc a),
+    )
 meets_asked (negsuc a) (negsuc m) c h = let x = h in cc
 
 asked_meets : (a b : ℤ) (c : ℕ) → Asked a b c → meet_all (conditions a b) c ≡ true

@@ -1,9 +1,9 @@
 -- The predicates of pseudo-classes that look at parents, children, names and attributes alone.
-use Rattle.std.proofs.Common.{◌≡◌, ◌≢◌, refl, ℕ, zero, suc, ◌<◌, ◌≤◌, Bool, true, false, ◌&&◌, ◌||◌, not, cond, eqb, ltb, List, [], ◌∷◌, length, ap, sym, ◌∙◌, subst, filter, map, arith, ◌⊎◌, inl, inr, lt-ltb, Option, Some, None}
+use Rattle.std.proofs.Common.{◌≡◌, ◌≢◌, refl, ℕ, ◌<◌, Bool, true, false, ◌&&◌, ◌||◌, not, eqb, ltb, List, [], ◌∷◌, length, ap, sym, ◌∙◌, filter, map, arith, ◌⊎◌, inl, inr, lt-ltb}
 use Rattle.std.specs.Prelude.{codes}
 use Rattle.std.specs.List.{list_any}
 use Rattle.std.specs.Str.{bytes_eq}
-use Rattle.std.proofs.lemmas.Bool.{and_parts, and_from, eqb-true, eq-eqb, ltb-true, cases_lt, false_from_ne_true}
+use Rattle.std.proofs.lemmas.Bool.{and_parts, and_from, eqb-true, eq-eqb, cases_lt, false_from_ne_true}
 use Rattle.text_base.specs.Strings.{is_among, contains}
 use Rattle.doc_model.specs.declared.Kind.{Kind}
 use Rattle.doc_model.specs.declared.Kind.TheVariants.{Root, Element, Attribute, Text, Comment}
@@ -18,15 +18,13 @@ use Rattle.css_meaning.specs.Simples.{is_empty_element, is_link, is_checked, is_
 use Rattle.css_meaning.proofs.ListTests as lists
 use Rattle.css_meaning.proofs.Finding.{in_rows, row_within}
 use Rattle.xpath_values.specs.Strings.{str_contains}
-use Rattle.xpath_values.specs.declared.value.Value.{Value}
-use Rattle.xpath_values.specs.declared.value.Value.TheVariants.{Nodes, Num, Str, Bool as Truth}
+use Rattle.xpath_values.specs.declared.value.Value.TheVariants.{Nodes, Str, Bool as Truth}
 use Rattle.xpath_parser.specs.declared.expression.Expr.{Expr}
 use Rattle.xpath_parser.specs.declared.expression.Expr.TheVariants as e
 use Rattle.xpath_parser.specs.declared.expression.Func.TheVariants as f
 use Rattle.xpath_parser.specs.Conversions.{is_any, text_of_rows, truth_of}
-use Rattle.xpath_parser.specs.Functions.{Context}
 use Rattle.xpath_parser.specs.Denote.{has, denote}
-use Rattle.css_translate.specs.Predicates.{path, literal, both, number, not_one, self_named, one_of, control, plain_attribute, equals, html_predicate, link_predicate, checked_predicate}
+use Rattle.css_translate.specs.Predicates.{path, literal, both, not_one, self_named, one_of, control, plain_attribute, equals, html_predicate, link_predicate, checked_predicate}
 use Rattle.css_translate.proofs.PathsKept.{Is}
 use Rattle.css_translate.proofs.MeansValues as values
 use Rattle.css_translate.proofs.MeansValues.{Value_at, is_truth, is_nodes, is_never, any_kept, at_not, at_both, at_either, at_or, at_and, at_call_two, at_bare_step, Truths_at}
@@ -69,11 +67,11 @@ module _ (doc : Document) where
   -- an element is behind row 0
   pub element_some : IsDocument doc → (x : ℕ) → is_element doc x ≡ true → 0 < x
   element_some is x h = elim (cases_lt 0 x) [
-      inl l ↦ l
+    | inl l ↦ l
     | inr le ↦ absurd (let zero_row : x ≡ 0 = omega arith in
         let none : is_element doc x ≡ false = ap (is_element doc) zero_row ∙ ap (λ (r : Row). is_element_kind r.kind) is.root in
         let no : false ≡ true = sym none ∙ h in cc)
-    ]
+  ]
 
   parent_kind : (k : Kind) → (k ≡ Root) ⊎ (k ≡ Element) → k ≢ Root → is_element_kind k ≡ true
   parent_kind k (inl root) n = absurd (n root)
@@ -82,14 +80,14 @@ module _ (doc : Document) where
   -- the parent is an element, or row 0
   parent_element : IsDocument doc → (x : ℕ) → 0 < x → x < length doc → is_element doc (row doc x).parent ≡ not (eqb (row doc x).parent 0)
   parent_element is x some within = elim (cases_lt 0 (row doc x).parent) [
-      inl l ↦ (
+    | inl l ↦ (
         let r : IsRow doc x = is.rest x some within in
         let up : (row doc x).parent < x = r.parent in
         let p : IsRow doc (row doc x).parent = is.rest (row doc x).parent l (omega arith) in
         parent_kind (row doc (row doc x).parent).kind r.owner p.kind ∙ sym (ap not (apart_zero (row doc x).parent l)))
     | inr le ↦ (let z : (row doc x).parent ≡ 0 = omega arith in
         ap (is_element doc) z ∙ ap (λ (r : Row). is_element_kind r.kind) is.root ∙ sym (ap not (eq-eqb (row doc x).parent 0 z)))
-    ]
+  ]
     where
       apart_zero : (p : ℕ) → 0 < p → eqb p 0 ≡ false
       apart_zero p h = false_from_ne_true _ (λ t. let z : p ≡ 0 = eqb-true p 0 t in omega arith)

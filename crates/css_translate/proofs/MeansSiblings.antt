@@ -1,14 +1,13 @@
 -- The siblings that are counted, and the position among them.
-use Rattle.std.proofs.Common.{◌≡◌, ◌≢◌, refl, ℕ, zero, suc, ◌+◌, ◌^◌, ◌<◌, ◌≤◌, Bool, true, false, ◌&&◌, ◌||◌, not, cond, eqb, ltb, List, [], ◌∷◌, ◌++◌, length, ap, sym, ◌∙◌, subst, filter, map, arith, ◌⊎◌, inl, inr, lt-ltb, Option, Some, None}
+use Rattle.std.proofs.Common.{◌≡◌, refl, ℕ, zero, suc, ◌+◌, ◌^◌, ◌<◌, ◌≤◌, Bool, true, false, ◌&&◌, ◌||◌, not, cond, eqb, ltb, List, [], ◌∷◌, ◌++◌, length, ap, sym, ◌∙◌, filter, arith, lt-ltb, Option, Some, None}
 use Rattle.std.specs.Prelude.{IsSome, ℤ, pos}
-use Rattle.std.specs.List.{list_any, list_all, range_with_len}
+use Rattle.std.specs.List.{list_any, range_with_len}
 use Rattle.std.specs.Str.{bytes_eq}
-use Rattle.std.proofs.lemmas.Bool.{and_parts, and_from, eqb-true, eq-eqb, ltb-true, false_from_ne_true}
-use Rattle.doc_model.specs.declared.Axis.{Axis}
+use Rattle.std.proofs.lemmas.Bool.{and_parts, eqb-true, false_from_ne_true}
 use Rattle.doc_model.specs.declared.Axis.TheVariants as axis
 use Rattle.doc_model.specs.declared.NodeTest.TheVariants as node
-use Rattle.doc_model.specs.Document.{Document, row, rows, is_element, is_attribute, is_parent, IsDocument}
-use Rattle.doc_model.specs.Axes.{on_axis, passes, are_siblings}
+use Rattle.doc_model.specs.Document.{Document, row, rows, is_element, is_attribute, IsDocument}
+use Rattle.doc_model.specs.Axes.{are_siblings}
 use Rattle.css_meaning.specs.declared.selector.Dialect.{Dialect}
 use Rattle.css_meaning.specs.declared.selector.Nth.{Nth}
 use Rattle.css_meaning.specs.declared.selector.Nth.TheVariants as nth
@@ -19,10 +18,8 @@ use Rattle.css_meaning.specs.Nth.{is_nth}
 use Rattle.css_meaning.specs.WellMade.{IsSmall, FitsKind}
 use Rattle.css_meaning.proofs.ListTests as lists
 use Rattle.css_meaning.proofs.Values.{same_means}
-use Rattle.xpath_values.specs.declared.value.Value.{Value}
 use Rattle.xpath_values.specs.declared.value.Value.TheVariants.{Nodes}
-use Rattle.xpath_parser.specs.declared.expression.Expr.{Expr}
-use Rattle.css_translate.specs.Predicates.{siblings, nth_predicates, elements, path}
+use Rattle.css_translate.specs.Predicates.{siblings, nth_predicates}
 use Rattle.css_translate.proofs.Links.{is_no_attribute}
 use Rattle.css_translate.proofs.PathsKept.{Keep, keep_both, keep_same}
 use Rattle.css_translate.proofs.MeansValues.{Value_at, at_bare_step}
@@ -37,9 +34,9 @@ use Rattle.std.proofs.lemmas.Bool.Decides.{nat_tests}
 kept_length : (p : ℕ → Bool) (xs : List ℕ) → length (filter p xs) ≤ length xs
 kept_length p [] = omega arith
 kept_length p (x ∷ xs) = elim (p x) as (λ b. length (cond b (x ∷ filter p xs) (filter p xs)) ≤ suc (length xs)) [
-    true ↦ (let l : length (filter p xs) ≤ length xs = kept_length p xs in omega arith)
+  | true ↦ (let l : length (filter p xs) ≤ length xs = kept_length p xs in omega arith)
   | false ↦ (let l : length (filter p xs) ≤ length xs = kept_length p xs in omega arith)
-  ]
+]
 
 range_length : (a n : ℕ) → length (range_with_len a n) ≡ n
 range_length a zero = refl
@@ -81,6 +78,7 @@ module _ (doc : Document) (is : IsDocument doc) (d : Dialect) (el : Option (List
     where
       under : (p : ℕ → Bool) → length (filter p (rows doc)) < 2 ^ 53
       under p = let l : length (filter p (rows doc)) ≤ length (rows doc) = kept_length p (rows doc) in omega (arith, range_length 0 (length doc), c.all_rows)
+
       at : (k : Nth) → length (counted k x) < 2 ^ 53
       at nth.Child = under _
       at nth.LastChild = under _
@@ -128,9 +126,9 @@ module _ (doc : Document) (is : IsDocument doc) (d : Dialect) (el : Option (List
   none_kept : (p : ℕ → Bool) (xs : List ℕ) → eqb (length (filter p xs)) 0 ≡ not (list_any p xs)
   none_kept p [] = refl
   none_kept p (x ∷ xs) = elim (p x) as (λ b. eqb (length (cond b (x ∷ filter p xs) (filter p xs))) 0 ≡ not (b || list_any p xs)) [
-      true ↦ false_from_ne_true _ (λ t. let z : suc (length (filter p xs)) ≡ 0 = eqb-true _ 0 t in omega arith)
+    | true ↦ false_from_ne_true _ (λ t. let z : suc (length (filter p xs)) ≡ 0 = eqb-true _ 0 t in omega arith)
     | false ↦ none_kept p xs
-    ]
+  ]
 
   first_position : (n : ℕ) → is_nth (pos 0) (pos 1) (suc n) ≡ eqb n 0
   first_position n = sym (conditions_nth (pos 0) (pos 1) n) ∙ lists.and_true (eqb n 0)

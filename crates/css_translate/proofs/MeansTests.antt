@@ -1,12 +1,11 @@
 -- What the predicates of a simple selector keep: negations, and lists of simples.
-use Rattle.std.proofs.Common.{◌≡◌, refl, ℕ, suc, Bool, true, false, ◌&&◌, ◌||◌, not, eqb, List, [], ◌∷◌, ◌++◌, ap, sym, ◌∙◌, subst, filter, Option, Some, None}
-use Rattle.std.specs.Prelude.{All, flat_map}
-use Rattle.std.specs.List.{list_any, list_all, AllByRecursion}
+use Rattle.std.proofs.Common.{◌≡◌, refl, ℕ, Bool, true, false, ◌&&◌, not, eqb, List, [], ◌∷◌, ap, sym, ◌∙◌, subst, filter, Option}
+use Rattle.std.specs.Prelude.{flat_map}
+use Rattle.std.specs.List.{AllByRecursion}
 use Rattle.std.proofs.lemmas.Bool.{and_parts, eqb-true}
 use Rattle.doc_model.specs.declared.Axis.TheVariants as axis
 use Rattle.doc_model.specs.declared.NodeTest.TheVariants as node
-use Rattle.doc_model.specs.Document.{Document, row, rows, is_element}
-use Rattle.doc_model.specs.Axes.{on_axis, passes}
+use Rattle.doc_model.specs.Document.{Document, rows, is_element}
 use Rattle.css_meaning.specs.declared.selector.Dialect.{Dialect}
 use Rattle.css_meaning.specs.declared.selector.Simple.{Simple}
 use Rattle.css_meaning.specs.declared.selector.Test.{Test}
@@ -14,13 +13,12 @@ use Rattle.css_meaning.specs.declared.selector.Test.TheVariants as test
 use Rattle.css_meaning.specs.Simples.{simple_holds, test_holds}
 use Rattle.css_meaning.specs.Matching.{has_name}
 use Rattle.css_meaning.proofs.ListTests as lists
-use Rattle.xpath_values.specs.declared.value.Value.{Value}
-use Rattle.xpath_values.specs.declared.value.Value.TheVariants.{Nodes, Bool as Truth}
+use Rattle.xpath_values.specs.declared.value.Value.TheVariants.{Nodes}
 use Rattle.xpath_parser.specs.declared.expression.Expr.{Expr}
 use Rattle.xpath_parser.specs.Conversions.{is_any}
 use Rattle.css_translate.specs.Predicates.{path, elements, not_one, test_predicates, negated_predicate, simple_predicates}
 use Rattle.css_translate.proofs.PathsKept.{Is, Keep, keep_none, keep_one, keep_both}
-use Rattle.css_translate.proofs.MeansValues.{Value_at, is_truth, is_nodes, any_kept, at_step, at_not}
+use Rattle.css_translate.proofs.MeansValues.{Value_at, is_truth, any_kept, at_step, at_not}
 use Rattle.css_translate.proofs.MeansNames.{at_elements}
 use Rattle.css_translate.proofs.MeansParts.{is_named_element, all_hold, element_row, self_any, self_named_is}
 

@@ -1,14 +1,12 @@
 -- The words of a value: those of XPath's white space, with single spaces between, hold a word between spaces.
-use Rattle.std.proofs.Common.{◌≡◌, ◌≢◌, refl, ℕ, zero, suc, Bool, true, false, ◌&&◌, ◌||◌, not, cond, eqb, List, [], ◌∷◌, ◌++◌, ap, sym, ◌∙◌, subst, append_assoc}
-use Rattle.std.specs.Prelude.{codes}
+use Rattle.std.proofs.Common.{◌≡◌, refl, ℕ, Bool, true, false, ◌&&◌, ◌||◌, cond, eqb, List, [], ◌∷◌, ◌++◌, ap, sym, ◌∙◌, append_assoc}
 use Rattle.std.specs.List.{list_any, join_with_byte}
 use Rattle.std.specs.Str.{bytes_eq}
-use Rattle.std.proofs.lemmas.Bool.{and_parts, and_from, eqb-true, eq-eqb, false_from_ne_true}
+use Rattle.std.proofs.lemmas.Bool.{eqb-true, eq-eqb}
 use Rattle.std.proofs.lemmas.List.{append-nil}
 use Rattle.text_base.specs.Text.{is_space5}
 use Rattle.text_base.specs.Strings.{is_empty, starts_with, contains, is_among, put, pieces, not_empty, runs}
 use Rattle.css_meaning.specs.Limits.{is_form_feed}
-use Rattle.css_meaning.proofs.ListTests as lists
 use Rattle.xpath_values.specs.Numbers.{is_space4}
 use Rattle.xpath_values.specs.Strings.{words_after, words, normalized, is_empty as no_text}
 
@@ -37,6 +35,7 @@ pieces_whole p (c ∷ x) = at (p c)
     put_whole : (ws : List (List ℕ)) → front [] (put c ws) ≡ put c ws
     put_whole [] = refl
     put_whole (w ∷ ws) = refl
+
     at : (b : Bool) → front [] (cond b ([] ∷ pieces p x) (put c (pieces p x))) ≡ cond b ([] ∷ pieces p x) (put c (pieces p x))
     at true = refl
     at false = put_whole (pieces p x)
