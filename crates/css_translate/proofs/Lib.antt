@@ -1,5 +1,8 @@
 pub mod Links
 pub mod LinksNext
+pub mod LiteralBytes
+pub mod LiteralParts
+pub mod LiteralRuns
 pub mod Means
 pub mod MeansAll
 pub mod MeansAttributes
@@ -19,3 +22,13 @@ pub mod MeansValues
 pub mod MeansWords
 pub mod Paths
 pub mod PathsKept
+pub mod Pieces
+pub mod PlainNames
+pub mod Pushes
+pub mod ReadBack
+pub mod Readings
+pub mod Rooms
+pub mod Spelling
+pub mod Theorem
+pub mod Typed
+mod Worked

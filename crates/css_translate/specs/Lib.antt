@@ -1,4 +1,5 @@
 pub mod Conditions
+pub mod Examples
 pub mod Expression
 pub mod Literals
 pub mod Names
@@ -6,4 +7,5 @@ pub mod Plain
 pub mod Predicates
 pub mod Printed
 pub mod Promise
+pub mod Runs
 pub mod Simples

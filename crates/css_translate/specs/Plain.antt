@@ -39,3 +39,6 @@ IsPlain s = (s.tail ≡ tail.Element) × IsPlainParts s.parts × AllByRecursion 
 -- the list is one plain selector
 abbrev pub IsOnePlain : SelectorList → Type 0
 IsOnePlain list = (s : Selector) × (list.items ≡ s ∷ []) × IsPlain s
+
+abbrev pub HasNoSimples : Part → Type 0
+HasNoSimples p = p.simples ≡ []

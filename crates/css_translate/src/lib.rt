@@ -1,2 +1,13 @@
-//! Selectors printed as XPath.
+//! Selectors printed as XPath, and what the printed texts mean.
 #![tactic(auto)]
+
+mod laws;
+mod literals;
+mod names;
+mod printing;
+mod pushing;
+mod steps;
+
+pub use laws::worked_texts;
+pub use literals::literal;
+pub use printing::translate;

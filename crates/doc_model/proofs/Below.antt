@@ -83,8 +83,8 @@ trans_within (suc n) doc x y z m l h k =
     let some : 0 < z = below_some doc y z k in
     let less : (row doc z).parent < z = m z some in
     elim (below_cases doc y z m k) [
-      inl e ↦ below_up doc x z m some (subst (λ v. below doc x v ≡ true) (sym e) h)
-    | inr b ↦ below_up doc x z m some (trans_within n doc x y (row doc z).parent m (omega arith) h b)
+      | inl e ↦ below_up doc x z m some (subst (λ v. below doc x v ≡ true) (sym e) h)
+      | inr b ↦ below_up doc x z m some (trans_within n doc x y (row doc z).parent m (omega arith) h b)
     ]
 
 pub below_trans : (doc : Document) (x y z : ℕ) → Small doc → below doc x y ≡ true → below doc y z ≡ true → below doc x z ≡ true

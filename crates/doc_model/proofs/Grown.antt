@@ -54,8 +54,8 @@ document_push doc r d new = record {
   some = omega (arith, length_push doc r);
   root = pushed_same doc r 0 d.some ∙ d.root;
   rest = λ i p l. elim (cases_lt i (length doc)) [
-    inl h ↦ row_same (length doc) doc (doc ++ r ∷ []) i (small doc d) (pushed_same doc r) p h (d.rest i p h)
-  | inr h ↦ (let e : length doc ≡ i = omega (arith, length_push doc r) in subst (IsRow (doc ++ r ∷ [])) e new)
+    | inl h ↦ row_same (length doc) doc (doc ++ r ∷ []) i (small doc d) (pushed_same doc r) p h (d.rest i p h)
+    | inr h ↦ (let e : length doc ≡ i = omega (arith, length_push doc r) in subst (IsRow (doc ++ r ∷ [])) e new)
   ];
 }
 
@@ -155,9 +155,9 @@ grown_comment g text w =
 -- what is at a row or below it is below the row's parent
 pub above_last : (doc : Document) (n e : ℕ) → Small doc → 0 < n → ((eqb n e) || below doc n e) ≡ true → below doc (row doc n).parent e ≡ true
 above_last doc n e m some h = elim (or_cases _ _ h) [
-    inl s ↦ subst (λ v. below doc (row doc n).parent v ≡ true) (eqb-true _ _ s) (below_parent doc _ n m some refl)
+  | inl s ↦ subst (λ v. below doc (row doc n).parent v ≡ true) (eqb-true _ _ s) (below_parent doc _ n m some refl)
   | inr b ↦ below_trans doc (row doc n).parent n e m (below_parent doc _ n m some refl) b
-  ]
+]
 
 closed : (rows : Document) (ns : List ℕ) → ns ≢ [] → IsGrowing (growing rows ns) → IsGrowing (growing rows (rest_of ns))
 closed rows [] some w = absurd (some refl)

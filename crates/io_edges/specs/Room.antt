@@ -1,7 +1,15 @@
--- How a sink in memory was made, and how many writes it had, beside what the trait tells.
-use Rattle.std.specs.Prelude.{◌≡◌, ℕ, ◌-◌, List, vec_len}
+-- What a sink in memory took, how it was made, and how many writes it had.
+use Rattle.std.specs.Prelude.{◌≡◌, ℕ, ◌-◌, List, Option, Some, vec_len}
 use Rattle.io_edges.specs.Counts.{next_count}
 use Rattle.io_edges.specs.declared.mem_sink.MemSink.{MemSink}
+
+-- the bytes taken so far
+abbrev pub taken_by : MemSink → Option (List ℕ)
+taken_by s = Some s.bytes.items
+
+-- how many writes were counted as faults
+abbrev pub faults_of : MemSink → ℕ
+faults_of s = s.faults
 
 -- how many bytes the sink takes in all
 abbrev pub room_of : MemSink → ℕ

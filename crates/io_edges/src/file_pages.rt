@@ -5,7 +5,9 @@ use std::fs;
 use std::io::{ErrorKind, Read};
 use std::rt::Files;
 
-/// Pages that are files. They tell nothing of their bytes: what a file holds is trusted.
+/// Pages that are files, named by their paths. They tell nothing of their bytes: what the system gives
+/// for a file is trusted. A file that can't be opened or read, a folder and a read that was interrupted
+/// are counted faults; an open without memory is `BeginFault::Memory`.
 #[derive(Drop)]
 pub struct FilePages<'r, R: Files> {
     rt: &'r R,

@@ -47,32 +47,36 @@ impl MemPages {
 }
 
 impl Pages for MemPages {
-    ghost use Rattle.io_edges.specs.Shelf.{left_in};
-    ghost use Rattle.io_edges.specs.Mem.{most_of, fails_of, number_of, CallsOnce};
+    ghost use Rattle.io_edges.specs.Mem.{told_by, left_of, faults_of, begun_of, most_of, fails_of, number_of, CallsOnce};
 
-    ghost told = { λ m. Some (told_of m.shelf.files) };
+    ghost told = { λ m. told_by m };
 
-    ghost left = { λ m. Some (left_in m.shelf) };
+    ghost left = { λ m. left_of m };
 
-    ghost faults = { λ m. m.faults };
+    ghost faults = { λ m. faults_of m };
 
-    ghost begun = { λ m. m.begun };
+    ghost begun = { λ m. begun_of m };
 
     fn begin(&mut self, name: &str) -> Result<(), BeginFault>
-        ensures told { ⟦<MemPages as Pages>⟧.told self.new ≡ ⟦<MemPages as Pages>⟧.told self.old }
-        ensures begun { Grows (⟦<MemPages as Pages>⟧.begun self.old) 1 (⟦<MemPages as Pages>⟧.begun self.new) }
-        ensures never_falls { ⟦<MemPages as Pages>⟧.faults self.old ≤ ⟦<MemPages as Pages>⟧.faults self.new }
-        ensures failed { IsErrOf result BeginFault.Failed → Rose (⟦<MemPages as Pages>⟧.faults self.old) (⟦<MemPages as Pages>⟧.faults self.new) ⊎ Lacks (⟦<MemPages as Pages>⟧.told self.old) name.now }
-        ensures lacking { Lacks (⟦<MemPages as Pages>⟧.told self.old) name.now → (⟦<MemPages as Pages>⟧.faults self.new ≡ ⟦<MemPages as Pages>⟧.faults self.old) × IsErr result }
-        ensures memory { IsErrOf result BeginFault.Memory → ⟦<MemPages as Pages>⟧.faults self.new ≡ ⟦<MemPages as Pages>⟧.faults self.old }
-        ensures opened { OnOk result (Opens (⟦<MemPages as Pages>⟧.told self.old) name.now (⟦<MemPages as Pages>⟧.left self.new)) }
-        ensures refused { OnErr result (IsDone (⟦<MemPages as Pages>⟧.left self.new)) }
+        ensures told { told_by self.new ≡ told_by self.old }
+        ensures begun { Grows (begun_of self.old) 1 (begun_of self.new) }
+        ensures never_falls { faults_of self.old ≤ faults_of self.new }
+        ensures failed { IsErrOf result BeginFault.Failed →
+            Rose (faults_of self.old) (faults_of self.new) ⊎ Lacks (told_by self.old) name.now }
+        ensures lacking { Lacks (told_by self.old) name.now →
+            (faults_of self.new ≡ faults_of self.old) × IsErr result }
+        ensures memory { IsErrOf result BeginFault.Memory → faults_of self.new ≡ faults_of self.old }
+        ensures opened { OnOk result (Opens (told_by self.old) name.now (left_of self.new)) }
+        ensures refused { OnErr result (IsDone (left_of self.new)) }
 
-        // Exactly a name that is not there and a call whose number is given fail, and the second is counted.
-        ensures fails { IsErr result ↔ (Lacks (⟦<MemPages as Pages>⟧.told self.old) name.now ⊎ Contains (fails_of self.old) (number_of self.old)) }
+        // Exactly a name that is not there and a call whose number is given fail, and the second
+        // is counted.
+        ensures fails { IsErr result ↔
+            (Lacks (told_by self.old) name.now ⊎ Contains (fails_of self.old) (number_of self.old)) }
         ensures no_memory { ¬ IsErrOf result BeginFault.Memory }
-        ensures counted { OnErr result (Lacks (⟦<MemPages as Pages>⟧.told self.old) name.now ⊎ (⟦<MemPages as Pages>⟧.faults self.new ≡ next_count (⟦<MemPages as Pages>⟧.faults self.old))) }
-        ensures uncounted { OnOk result (⟦<MemPages as Pages>⟧.faults self.new ≡ ⟦<MemPages as Pages>⟧.faults self.old) }
+        ensures counted { OnErr result
+            (Lacks (told_by self.old) name.now ⊎ (faults_of self.new ≡ next_count (faults_of self.old))) }
+        ensures uncounted { OnOk result (faults_of self.new ≡ faults_of self.old) }
         ensures calls { CallsOnce self.old self.new }
     {
         self.calls = self.calls.saturating_add(1);
@@ -89,22 +93,24 @@ impl Pages for MemPages {
     }
 
     fn read(&mut self, into: &mut [u8]) -> Result<usize, Failed>
-        ensures told { ⟦<MemPages as Pages>⟧.told self.new ≡ ⟦<MemPages as Pages>⟧.told self.old }
-        ensures begun { ⟦<MemPages as Pages>⟧.begun self.new ≡ ⟦<MemPages as Pages>⟧.begun self.old }
-        ensures never_falls { ⟦<MemPages as Pages>⟧.faults self.old ≤ ⟦<MemPages as Pages>⟧.faults self.new }
-        ensures failed { OnErr result (Rose (⟦<MemPages as Pages>⟧.faults self.old) (⟦<MemPages as Pages>⟧.faults self.new)) }
-        ensures unread { OnErr result (⟦<MemPages as Pages>⟧.left self.new ≡ ⟦<MemPages as Pages>⟧.left self.old) }
+        ensures told { told_by self.new ≡ told_by self.old }
+        ensures begun { begun_of self.new ≡ begun_of self.old }
+        ensures never_falls { faults_of self.old ≤ faults_of self.new }
+        ensures failed { OnErr result (Rose (faults_of self.old) (faults_of self.new)) }
+        ensures unread { OnErr result (left_of self.new ≡ left_of self.old) }
         ensures within { IfOk result (λ n. n ≤ length into.new) }
-        ensures bytes { IfOk result (λ n. IfSome (⟦<MemPages as Pages>⟧.left self.old) (λ bytes. take n into.new ≡ take n bytes)) }
-        ensures left { IfOk result (λ n. ⟦<MemPages as Pages>⟧.left self.new ≡ option_map (drop n) (⟦<MemPages as Pages>⟧.left self.old)) }
-        ensures ends { IfOk result (λ n. IfSome (⟦<MemPages as Pages>⟧.left self.old) (λ bytes.
+        ensures bytes { IfOk result (λ n. IfSome (left_of self.old) (λ bytes.
+            take n into.new ≡ take n bytes)) }
+        ensures left { IfOk result (λ n. left_of self.new ≡ option_map (drop n) (left_of self.old)) }
+        ensures ends { IfOk result (λ n. IfSome (left_of self.old) (λ bytes.
             0 < length into.old → (n ≡ 0 ↔ (bytes ≡ [])))) }
 
-        // Exactly a call whose number is given fails and is counted, and any other gives as many bytes as it may.
+        // Exactly a call whose number is given fails and is counted, and any other gives as many
+        // bytes as it may.
         ensures fails { IsErr result ↔ Contains (fails_of self.old) (number_of self.old) }
-        ensures counted { OnErr result (⟦<MemPages as Pages>⟧.faults self.new ≡ next_count (⟦<MemPages as Pages>⟧.faults self.old)) }
-        ensures uncounted { OnOk result (⟦<MemPages as Pages>⟧.faults self.new ≡ ⟦<MemPages as Pages>⟧.faults self.old) }
-        ensures most { IfOk result (λ n. IfSome (⟦<MemPages as Pages>⟧.left self.old) (λ bytes.
+        ensures counted { OnErr result (faults_of self.new ≡ next_count (faults_of self.old)) }
+        ensures uncounted { OnOk result (faults_of self.new ≡ faults_of self.old) }
+        ensures most { IfOk result (λ n. IfSome (left_of self.old) (λ bytes.
             n ≡ min (min (most_of self.old) (length into.old)) (length bytes))) }
         ensures calls { CallsOnce self.old self.new }
     {

@@ -24,7 +24,8 @@ pub struct MemSink {
 impl MemSink {
     ghost use Rattle.io_edges.specs.Room.{room_of, most_of, fails_of, writes_of};
 
-    /// A sink for `room` bytes, of which a write takes at most `most`. All of its memory is taken here.
+    /// A sink with room for `room` bytes, of which a write takes at most `most`. All of its memory
+    /// is taken here, and the only error is that there is none.
     pub fn new(
         alloc: Global,
         room: usize,
@@ -59,25 +60,28 @@ impl MemSink {
 }
 
 impl Sink for MemSink {
-    ghost use Rattle.io_edges.specs.Room.{free_room, most_of, fails_of, number_of, WritesOnce};
+    ghost use Rattle.io_edges.specs.Room.{taken_by, faults_of, free_room, most_of, fails_of, number_of, WritesOnce};
 
-    ghost taken = { λ s. Some s.bytes.items };
+    ghost taken = { λ s. taken_by s };
 
-    ghost faults = { λ s. s.faults };
+    ghost faults = { λ s. faults_of s };
 
     fn write(&mut self, bytes: &[u8]) -> Result<usize, Failed>
-        ensures never_falls { ⟦<MemSink as Sink>⟧.faults self.old ≤ ⟦<MemSink as Sink>⟧.faults self.new }
-        ensures failed { OnErr result (Rose (⟦<MemSink as Sink>⟧.faults self.old) (⟦<MemSink as Sink>⟧.faults self.new)) }
-        ensures untaken { OnErr result (⟦<MemSink as Sink>⟧.taken self.new ≡ ⟦<MemSink as Sink>⟧.taken self.old) }
+        ensures never_falls { faults_of self.old ≤ faults_of self.new }
+        ensures failed { OnErr result (Rose (faults_of self.old) (faults_of self.new)) }
+        ensures untaken { OnErr result (taken_by self.new ≡ taken_by self.old) }
         ensures within { IfOk result (λ n. n ≤ length bytes.now) }
         ensures some { IfOk result (λ n. 0 < length bytes.now → 0 < n) }
-        ensures taken { IfOk result (λ n. ⟦<MemSink as Sink>⟧.taken self.new ≡ grown (⟦<MemSink as Sink>⟧.taken self.old) (take n bytes.now)) }
+        ensures taken { IfOk result (λ n.
+            taken_by self.new ≡ grown (taken_by self.old) (take n bytes.now)) }
 
         // Exactly a write whose number is given fails, or one with bytes but no room, and it is counted.
-        ensures fails { IsErr result ↔ (Contains (fails_of self.old) (number_of self.old) ⊎ ((0 < length bytes.now) × (free_room self.old ≡ 0))) }
-        ensures counted { OnErr result (⟦<MemSink as Sink>⟧.faults self.new ≡ next_count (⟦<MemSink as Sink>⟧.faults self.old)) }
-        ensures uncounted { OnOk result (⟦<MemSink as Sink>⟧.faults self.new ≡ ⟦<MemSink as Sink>⟧.faults self.old) }
-        ensures takes { IfOk result (λ n. n ≡ min (min (most_of self.old) (free_room self.old)) (length bytes.now)) }
+        ensures fails { IsErr result ↔ (Contains (fails_of self.old) (number_of self.old)
+            ⊎ ((0 < length bytes.now) × (free_room self.old ≡ 0))) }
+        ensures counted { OnErr result (faults_of self.new ≡ next_count (faults_of self.old)) }
+        ensures uncounted { OnOk result (faults_of self.new ≡ faults_of self.old) }
+        ensures takes { IfOk result (λ n.
+            n ≡ min (min (most_of self.old) (free_room self.old)) (length bytes.now)) }
         ensures writes { WritesOnce self.old self.new }
     {
         self.writes = self.writes.saturating_add(1);

@@ -25,11 +25,14 @@ impl Sink for NullSink {
 
     fn write(&mut self, bytes: &[u8]) -> Result<usize, Failed>
         ensures never_falls { ⟦<NullSink as Sink>⟧.faults self.old ≤ ⟦<NullSink as Sink>⟧.faults self.new }
-        ensures failed { OnErr result (Rose (⟦<NullSink as Sink>⟧.faults self.old) (⟦<NullSink as Sink>⟧.faults self.new)) }
-        ensures untaken { OnErr result (⟦<NullSink as Sink>⟧.taken self.new ≡ ⟦<NullSink as Sink>⟧.taken self.old) }
+        ensures failed { OnErr result
+            (Rose (⟦<NullSink as Sink>⟧.faults self.old) (⟦<NullSink as Sink>⟧.faults self.new)) }
+        ensures untaken { OnErr result
+            (⟦<NullSink as Sink>⟧.taken self.new ≡ ⟦<NullSink as Sink>⟧.taken self.old) }
         ensures within { IfOk result (λ n. n ≤ length bytes.now) }
         ensures some { IfOk result (λ n. 0 < length bytes.now → 0 < n) }
-        ensures taken { IfOk result (λ n. ⟦<NullSink as Sink>⟧.taken self.new ≡ grown (⟦<NullSink as Sink>⟧.taken self.old) (take n bytes.now)) }
+        ensures taken { IfOk result (λ n. ⟦<NullSink as Sink>⟧.taken self.new
+            ≡ grown (⟦<NullSink as Sink>⟧.taken self.old) (take n bytes.now)) }
 
         // The whole piece is taken.
         ensures whole { result ≡ Ok (length bytes.now) }

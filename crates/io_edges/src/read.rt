@@ -15,8 +15,11 @@ const BUFFER_SIZE: usize = 8_192;
 /// Why a page was not read.
 #[derive(Clone, Copy, Debug, PartialEq, Eq)]
 pub enum ReadEnd {
+    /// The page can't be begun or read: a fault was counted, or its name is known not to be there.
     Fault,
+    /// It has more than `PAGE_LIMIT` bytes.
     TooLong,
+    /// No memory was found.
     Memory,
 }
 
@@ -28,15 +31,21 @@ impl From<AllocError> for ReadEnd {
     }
 }
 
-/// Begins the page of this name and reads all of it.
+/// Begins the page of this name and reads all of its bytes, of which it may have `PAGE_LIMIT` at most.
+/// Each read but the last gives at least one byte, so there are at most `PAGE_LIMIT + 1` of them.
 pub fn read_page<P: Pages>(alloc: Global, pages: &mut P, name: &str) -> Result<Vec<u8>, ReadEnd>
     ensures told { P.told pages.new ≡ P.told pages.old }
     ensures begun { Grows (P.begun pages.old) 1 (P.begun pages.new) }
     ensures never_falls { P.faults pages.old ≤ P.faults pages.new }
-    ensures fault { IsErrOf result ReadEnd.Fault → Rose (P.faults pages.old) (P.faults pages.new) ⊎ Lacks (P.told pages.old) name.now }
-    ensures lacking { Lacks (P.told pages.old) name.now → IsErrOf result ReadEnd.Fault ⊎ IsErrOf result ReadEnd.Memory }
-    ensures too_long { IsErrOf result ReadEnd.TooLong → IsTooLong (P.told pages.old) name.now PAGE_LIMIT }
-    ensures exceeding { Exceeds (P.told pages.old) name.now PAGE_LIMIT → IsErrOf result ReadEnd.TooLong ⊎ IsErrOf result ReadEnd.Memory ⊎ Rose (P.faults pages.old) (P.faults pages.new) }
+    ensures fault { IsErrOf result ReadEnd.Fault →
+        Rose (P.faults pages.old) (P.faults pages.new) ⊎ Lacks (P.told pages.old) name.now }
+    ensures lacking { Lacks (P.told pages.old) name.now →
+        IsErrOf result ReadEnd.Fault ⊎ IsErrOf result ReadEnd.Memory }
+    ensures too_long { IsErrOf result ReadEnd.TooLong →
+        IsTooLong (P.told pages.old) name.now PAGE_LIMIT }
+    ensures exceeding { Exceeds (P.told pages.old) name.now PAGE_LIMIT →
+        IsErrOf result ReadEnd.TooLong ⊎ IsErrOf result ReadEnd.Memory
+        ⊎ Rose (P.faults pages.old) (P.faults pages.new) }
     ensures within { IfOk result (λ bytes. length bytes.items ≤ PAGE_LIMIT) }
     ensures bytes { IfOk result (λ bytes. Has (P.told pages.old) name.now bytes.items) }
     ensures done { OnOk result (IsDone (P.left pages.new)) }

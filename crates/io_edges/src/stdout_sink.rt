@@ -4,7 +4,8 @@ use crate::{Failed, Sink};
 use std::io;
 use std::io::Write;
 
-/// Standard output as a sink. It tells nothing of what it took: what the output holds is trusted.
+/// Standard output as a sink. It tells nothing of what it took: what the system does with it is trusted.
+/// A write that fails or takes nothing is a counted fault.
 #[derive(Drop)]
 pub struct StdoutSink<'r, R: Print> {
     rt: &'r R,

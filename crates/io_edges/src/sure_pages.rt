@@ -38,29 +38,30 @@ impl SurePages {
 }
 
 impl Pages for SurePages {
-    ghost use Rattle.io_edges.specs.Shelf.{left_in};
-    ghost use Rattle.io_edges.specs.Sure.{most_of};
+    ghost use Rattle.io_edges.specs.Sure.{told_by, left_of, faults_of, begun_of, most_of};
 
-    ghost told = { λ m. Some (told_of m.shelf.files) };
+    ghost told = { λ m. told_by m };
 
-    ghost left = { λ m. Some (left_in m.shelf) };
+    ghost left = { λ m. left_of m };
 
-    ghost faults = { λ _. 0 };
+    ghost faults = { λ m. faults_of m };
 
-    ghost begun = { λ m. m.begun };
+    ghost begun = { λ m. begun_of m };
 
     fn begin(&mut self, name: &str) -> Result<(), BeginFault>
-        ensures told { ⟦<SurePages as Pages>⟧.told self.new ≡ ⟦<SurePages as Pages>⟧.told self.old }
-        ensures begun { Grows (⟦<SurePages as Pages>⟧.begun self.old) 1 (⟦<SurePages as Pages>⟧.begun self.new) }
-        ensures never_falls { ⟦<SurePages as Pages>⟧.faults self.old ≤ ⟦<SurePages as Pages>⟧.faults self.new }
-        ensures failed { IsErrOf result BeginFault.Failed → Rose (⟦<SurePages as Pages>⟧.faults self.old) (⟦<SurePages as Pages>⟧.faults self.new) ⊎ Lacks (⟦<SurePages as Pages>⟧.told self.old) name.now }
-        ensures lacking { Lacks (⟦<SurePages as Pages>⟧.told self.old) name.now → (⟦<SurePages as Pages>⟧.faults self.new ≡ ⟦<SurePages as Pages>⟧.faults self.old) × IsErr result }
-        ensures memory { IsErrOf result BeginFault.Memory → ⟦<SurePages as Pages>⟧.faults self.new ≡ ⟦<SurePages as Pages>⟧.faults self.old }
-        ensures opened { OnOk result (Opens (⟦<SurePages as Pages>⟧.told self.old) name.now (⟦<SurePages as Pages>⟧.left self.new)) }
-        ensures refused { OnErr result (IsDone (⟦<SurePages as Pages>⟧.left self.new)) }
+        ensures told { told_by self.new ≡ told_by self.old }
+        ensures begun { Grows (begun_of self.old) 1 (begun_of self.new) }
+        ensures never_falls { faults_of self.old ≤ faults_of self.new }
+        ensures failed { IsErrOf result BeginFault.Failed →
+            Rose (faults_of self.old) (faults_of self.new) ⊎ Lacks (told_by self.old) name.now }
+        ensures lacking { Lacks (told_by self.old) name.now →
+            (faults_of self.new ≡ faults_of self.old) × IsErr result }
+        ensures memory { IsErrOf result BeginFault.Memory → faults_of self.new ≡ faults_of self.old }
+        ensures opened { OnOk result (Opens (told_by self.old) name.now (left_of self.new)) }
+        ensures refused { OnErr result (IsDone (left_of self.new)) }
 
         // Exactly a name that is not there fails.
-        ensures fails { IsErr result ↔ Lacks (⟦<SurePages as Pages>⟧.told self.old) name.now }
+        ensures fails { IsErr result ↔ Lacks (told_by self.old) name.now }
         ensures no_memory { ¬ IsErrOf result BeginFault.Memory }
         ensures most { most_of self.new ≡ most_of self.old }
     {
@@ -73,20 +74,21 @@ impl Pages for SurePages {
     }
 
     fn read(&mut self, into: &mut [u8]) -> Result<usize, Failed>
-        ensures told { ⟦<SurePages as Pages>⟧.told self.new ≡ ⟦<SurePages as Pages>⟧.told self.old }
-        ensures begun { ⟦<SurePages as Pages>⟧.begun self.new ≡ ⟦<SurePages as Pages>⟧.begun self.old }
-        ensures never_falls { ⟦<SurePages as Pages>⟧.faults self.old ≤ ⟦<SurePages as Pages>⟧.faults self.new }
-        ensures failed { OnErr result (Rose (⟦<SurePages as Pages>⟧.faults self.old) (⟦<SurePages as Pages>⟧.faults self.new)) }
-        ensures unread { OnErr result (⟦<SurePages as Pages>⟧.left self.new ≡ ⟦<SurePages as Pages>⟧.left self.old) }
+        ensures told { told_by self.new ≡ told_by self.old }
+        ensures begun { begun_of self.new ≡ begun_of self.old }
+        ensures never_falls { faults_of self.old ≤ faults_of self.new }
+        ensures failed { OnErr result (Rose (faults_of self.old) (faults_of self.new)) }
+        ensures unread { OnErr result (left_of self.new ≡ left_of self.old) }
         ensures within { IfOk result (λ n. n ≤ length into.new) }
-        ensures bytes { IfOk result (λ n. IfSome (⟦<SurePages as Pages>⟧.left self.old) (λ bytes. take n into.new ≡ take n bytes)) }
-        ensures left { IfOk result (λ n. ⟦<SurePages as Pages>⟧.left self.new ≡ option_map (drop n) (⟦<SurePages as Pages>⟧.left self.old)) }
-        ensures ends { IfOk result (λ n. IfSome (⟦<SurePages as Pages>⟧.left self.old) (λ bytes.
+        ensures bytes { IfOk result (λ n. IfSome (left_of self.old) (λ bytes.
+            take n into.new ≡ take n bytes)) }
+        ensures left { IfOk result (λ n. left_of self.new ≡ option_map (drop n) (left_of self.old)) }
+        ensures ends { IfOk result (λ n. IfSome (left_of self.old) (λ bytes.
             0 < length into.old → (n ≡ 0 ↔ (bytes ≡ [])))) }
 
         // No call fails, and each gives as many bytes as it may.
         ensures ok { IsOk result }
-        ensures gives { IfOk result (λ n. IfSome (⟦<SurePages as Pages>⟧.left self.old) (λ bytes.
+        ensures gives { IfOk result (λ n. IfSome (left_of self.old) (λ bytes.
             n ≡ min (min (most_of self.old) (length into.old)) (length bytes))) }
         ensures most { most_of self.new ≡ most_of self.old }
     {

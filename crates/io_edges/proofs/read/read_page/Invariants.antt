@@ -1,4 +1,4 @@
-use Rattle.std.proofs.Common.{◌≡◌, ◌≤◌, ◌-◌, ◌+◌, ℕ, length}
+use Rattle.std.proofs.Common.{◌≡◌, ◌≤◌, ◌-◌, length}
 use Rattle.io_edges.specs.Counts.{Grows}
 use Rattle.io_edges.specs.Reading.{IsReading}
 use Rattle.io_edges.proofs.read.read_page.Given as goal
