@@ -6,7 +6,7 @@ pub mod LiteralRuns
 pub mod Means
 pub mod MeansAll
 pub mod MeansAttributes
-pub mod MeansLang
+pub mod MeansLast
 pub mod MeansLanguage
 pub mod MeansLower
 pub mod MeansNames

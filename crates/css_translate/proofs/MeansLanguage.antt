@@ -35,7 +35,7 @@ use Rattle.css_translate.proofs.MeansParts.{self_any}
 use Rattle.css_translate.proofs.Paths.{found_in}
 use Rattle.doc_model.specs.Axes.{on_axis}
 use Rattle.css_translate.proofs.LinksNext.{first_of, one_kept}
-use Rattle.css_translate.proofs.MeansLang.{last_of, first_reversed, has_last}
+use Rattle.css_translate.proofs.MeansLast.{last_of, first_reversed, has_last}
 
 last_in : (xs : List ℕ) (y : ℕ) → has y (last_of xs) ≡ true → has y xs ≡ true
 last_in [] y h = h

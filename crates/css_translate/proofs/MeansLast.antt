@@ -1,4 +1,4 @@
--- The language of an element: what the nearest attribute upwards says.
+-- The last row that passes a test: the first of the rows turned round.
 use Rattle.std.proofs.Common.{◌≡◌, ◌≢◌, refl, ℕ, zero, suc, ◌+◌, ◌<◌, ◌≤◌, Bool, true, false, ◌&&◌, ◌||◌, not, cond, eqb, ltb, List, [], ◌∷◌, ◌++◌, length, ap, sym, ◌∙◌, filter, reverse, arith, ◌⊎◌, inl, inr, lt-ltb}
 use Rattle.std.specs.List.{list_any, range_with_len}
 use Rattle.std.proofs.lemmas.List.{reverse-append}
