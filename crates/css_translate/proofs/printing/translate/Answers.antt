@@ -1,0 +1,12 @@
+use Rattle.std.proofs.Common.{◌≡◌, ◌≤◌, length, string_bytes, arith, rules}
+use Rattle.xpath_parser.specs.Reading.{most_bytes}
+use Rattle.css_translate.specs.Printed.{printed}
+use Rattle.css_translate.proofs.Theorem.{keeps_meaning}
+use Rattle.css_translate.proofs.printing.translate.Goals as goal
+
+pub returns-else-len-gt-MOST_BYTES-clause-meaning :
+    goal.returns-else-len-gt-MOST_BYTES-clause-meaning
+returns-else-len-gt-MOST_BYTES-clause-meaning c =
+    let printed_is : string_bytes c.in-Ok.text ≡ printed c.args.dialect c.args.list.now = search rules in
+    let within : length (string_bytes c.in-Ok.text) ≤ most_bytes = omega arith in
+    keeps_meaning c.args.dialect c.args.list.now (string_bytes c.in-Ok.text) c.requires printed_is within

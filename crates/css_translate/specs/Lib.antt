@@ -1,0 +1,11 @@
+pub mod Conditions
+pub mod Examples
+pub mod Expression
+pub mod Literals
+pub mod Names
+pub mod Plain
+pub mod Predicates
+pub mod Printed
+pub mod Promise
+pub mod Runs
+pub mod Simples

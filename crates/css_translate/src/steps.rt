@@ -1,0 +1,114 @@
+ghost use Rattle.std.specs.Prelude.{◌≡◌, ◌++◌, OnOk, string_bytes, true};
+ghost use Rattle.css_translate.specs.Plain.{is_plain_element};
+ghost use Rattle.css_translate.specs.Printed.{step_text, next_text};
+
+use crate::names::push_element;
+use crate::pushing::push;
+use css_meaning::{Dialect, Link};
+use std::alloc::Global;
+use text_base::{NoMemory, Txt};
+
+fn push_first(
+    alloc: Global,
+    out: &mut String,
+    dialect: Dialect,
+    element: &Option<Txt>,
+) -> Result<(), NoMemory>
+    requires { is_plain_element element.now ≡ true }
+    ensures { OnOk result (string_bytes out.new ≡ string_bytes out.old ++ step_text dialect Link.First element.now) }
+{
+    push(out, "descendant-or-self::")?;
+    push_element(alloc, out, dialect, element)
+}
+
+fn push_descendant(
+    alloc: Global,
+    out: &mut String,
+    dialect: Dialect,
+    element: &Option<Txt>,
+) -> Result<(), NoMemory>
+    requires { is_plain_element element.now ≡ true }
+    ensures { OnOk result (string_bytes out.new ≡ string_bytes out.old ++ step_text dialect Link.Descendant element.now) }
+{
+    push(out, "/descendant::")?;
+    push_element(alloc, out, dialect, element)
+}
+
+fn push_child(
+    alloc: Global,
+    out: &mut String,
+    dialect: Dialect,
+    element: &Option<Txt>,
+) -> Result<(), NoMemory>
+    requires { is_plain_element element.now ≡ true }
+    ensures { OnOk result (string_bytes out.new ≡ string_bytes out.old ++ step_text dialect Link.Child element.now) }
+{
+    push(out, "/")?;
+    push_element(alloc, out, dialect, element)
+}
+
+/// Appends the name of the nearest sibling, where there is one.
+fn push_own_name(
+    alloc: Global,
+    out: &mut String,
+    dialect: Dialect,
+    element: &Option<Txt>,
+) -> Result<(), NoMemory>
+    requires { is_plain_element element.now ≡ true }
+    ensures { OnOk result (string_bytes out.new ≡ string_bytes out.old ++ next_text dialect element.now) }
+{
+    match element {
+        None => Ok(()),
+        Some(_) => {
+            push(out, "[self::")?;
+            push_element(alloc, out, dialect, element)?;
+            push(out, "]")
+        }
+    }
+}
+
+fn push_next(
+    alloc: Global,
+    out: &mut String,
+    dialect: Dialect,
+    element: &Option<Txt>,
+) -> Result<(), NoMemory>
+    requires { is_plain_element element.now ≡ true }
+    ensures { OnOk result (string_bytes out.new ≡ string_bytes out.old ++ step_text dialect Link.Next element.now) }
+{
+    push(out, "/following-sibling::*[1]")?;
+    push_own_name(alloc, out, dialect, element)
+}
+
+fn push_later(
+    alloc: Global,
+    out: &mut String,
+    dialect: Dialect,
+    element: &Option<Txt>,
+) -> Result<(), NoMemory>
+    requires { is_plain_element element.now ≡ true }
+    ensures { OnOk result (string_bytes out.new ≡ string_bytes out.old ++ step_text dialect Link.Later element.now) }
+{
+    push(out, "/following-sibling::")?;
+    push_element(alloc, out, dialect, element)
+}
+
+/// Appends a part's axis and element.
+pub fn push_step(
+    alloc: Global,
+    out: &mut String,
+    dialect: Dialect,
+    link: Link,
+    element: &Option<Txt>,
+) -> Result<(), NoMemory>
+    requires { is_plain_element element.now ≡ true }
+    ensures { OnOk result (string_bytes out.new ≡ string_bytes out.old ++ step_text dialect link element.now) }
+{
+    match link {
+        Link::First => push_first(alloc, out, dialect, element),
+        Link::Descendant => push_descendant(alloc, out, dialect, element),
+        Link::Child => push_child(alloc, out, dialect, element),
+        Link::Next => push_next(alloc, out, dialect, element),
+        Link::Later => push_later(alloc, out, dialect, element),
+    }
+}

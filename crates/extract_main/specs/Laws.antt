@@ -1,0 +1,26 @@
+-- Laws of the definitions.
+use Rattle.std.specs.Prelude.{◌≡◌, ℕ, List, ◌⊎◌, ◌↔◌, Some}
+use Rattle.text_base.specs.declared.reasons.SelectorFault.{SelectorFault}
+use Rattle.css_meaning.specs.declared.selector.Dialect.{Dialect}
+use Rattle.css_meaning.specs.declared.selector.SelectorList.{SelectorList}
+use Rattle.extract_main.specs.Selecting.{Accepts}
+use Rattle.extract_main.specs.Words.{Command, words_of, read}
+use Rattle.extract_main.specs.Output.{Plan, IsPlan, Refuses}
+
+-- A text is accepted as at most one list, is refused for at most one reason, and is not both accepted and refused but for the length of its XPath.
+pub record OneReading (d : Dialect) (text : List ℕ) : Type 0 where
+  pub one_list : (a b : SelectorList) → Accepts text a → Accepts text b → a ≡ b
+  pub one_reason : (a b : SelectorFault) → Refuses d text a → Refuses d text b → a ≡ b
+  pub one_or_other : (a : SelectorList) → Accepts text a → (why : SelectorFault) → Refuses d text why → why ≡ SelectorFault.XPathLong
+  pub some : ((a : SelectorList) × Accepts text a) ⊎ ((why : SelectorFault) × Refuses d text why)
+
+abbrev pub ReadingLaw : Type 0
+ReadingLaw = (d : Dialect) (text : List ℕ) → OneReading d text
+
+-- Each command has exactly one plan.
+abbrev pub PlanLaw : Type 0
+PlanLaw = (command : Command) → (plan : Plan) × IsPlan command plan × ((other : Plan) → IsPlan command other → other ≡ plan)
+
+-- The words have the form of a command exactly where they are that command's words.
+abbrev pub WordsLaw : Type 0
+WordsLaw = (words : List (List ℕ)) (command : Command) → (read words ≡ Some command) ↔ (words ≡ words_of command)

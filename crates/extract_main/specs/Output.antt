@@ -1,0 +1,138 @@
+-- What a run writes, and how it ends.
+use Rattle.std.specs.Prelude.{◌≡◌, ◌≢◌, ◌≤◌, ◌<◌, ℕ, ◌+◌, ◌⊎◌, Bool, true, false, List, [], ◌∷◌, ◌++◌, length, take, Option, Some, None, IfSome, codes, slice_index_or}
+use Rattle.std.specs.Option.{option_map_or}
+use Rattle.text_base.specs.declared.reasons.SelectorFault.{SelectorFault}
+use Rattle.text_base.specs.declared.reasons.SelectorFault.TheVariants as fault
+use Rattle.text_base.specs.Reasons.{selector_word}
+use Rattle.css_meaning.specs.declared.selector.Dialect.{Dialect}
+use Rattle.css_meaning.specs.declared.selector.SelectorList.{SelectorList}
+use Rattle.css_translate.specs.Printed.{printed}
+use Rattle.io_edges.specs.Counts.{Rose, Grows}
+use Rattle.io_edges.specs.Pages.{page, Lacks}
+use Rattle.io_edges.specs.Sink.{grown, TakesPart}
+use Rattle.extract_main.specs.Selecting.{Accepts, IsLong, IsUnbuilt, IsWrong}
+use Rattle.extract_main.specs.Lines.{css_text, reason_text}
+use Rattle.extract_main.specs.Answers.{Answer, bytes_of, refuses}
+use Rattle.extract_main.specs.Words.{Command, css}
+use Rattle.extract_main.specs.declared.top.Status.{Status}
+use Rattle.extract_main.specs.declared.top.Status.TheVariants.{Done, Refused, Usage, Memory, ReadFault, WriteFault}
+
+-- the most bytes of a printed XPath
+abbrev pub most_xpath : ℕ
+most_xpath = 1048576
+
+-- The text is an accepted list whose XPath is short enough: the line has its triples and its printed text.
+pub record IsListLine (d : Dialect) (text : List ℕ) (a : Answer) : Type 0 where
+  pub list : SelectorList
+  pub accepted : Accepts text list
+  pub short : length (printed d list) ≤ most_xpath
+  pub line : a ≡ record { text = css_text list.items (printed d list); refused = false }
+
+-- the printed text of the accepted list is too long
+pub record IsXPathLong (d : Dialect) (text : List ℕ) : Type 0 where
+  pub list : SelectorList
+  pub accepted : Accepts text list
+  pub long : most_xpath < length (printed d list)
+
+-- why a selector is refused
+abbrev pub Refuses : Dialect → List ℕ → SelectorFault → Type 0
+Refuses d text fault.Long = IsLong text
+Refuses d text fault.Text = ⊥
+Refuses d text fault.Syntax = IsWrong text
+Refuses d text fault.Prefix = ⊥
+Refuses d text fault.UnknownPseudo = ⊥
+Refuses d text fault.PseudoElement = ⊥
+Refuses d text fault.OfType = ⊥
+Refuses d text fault.Number = ⊥
+Refuses d text fault.XPathLong = IsXPathLong d text
+Refuses d text fault.Unbuilt = IsUnbuilt text
+Refuses d text fault.Memory = ⊥
+
+-- the text is refused: the line has the reason
+pub record IsRefusalLine (d : Dialect) (text : List ℕ) (a : Answer) : Type 0 where
+  pub why : SelectorFault
+  pub cause : Refuses d text why
+  pub line : a ≡ record { text = reason_text (codes "css." ++ selector_word why); refused = true }
+
+-- the line of a selector
+abbrev pub IsCssLine : Dialect → List ℕ → Answer → Type 0
+IsCssLine d text a = IsListLine d text a ⊎ IsRefusalLine d text a
+
+-- what a run writes: one line without any page, or a line for each page, made of the page's name and bytes
+pub data Plan : Type 0 where
+  alone : Answer → Plan
+  over : (List ℕ → List ℕ → Answer) → List (List ℕ) → Plan
+
+-- the plan of a command
+abbrev pub IsPlan : Command → Plan → Type 0
+IsPlan (css d s) (alone a) = IsCssLine d s a
+IsPlan (css d s) (over line names) = ⊥
+
+-- a fact for the plan of the command, where the words have one of the forms
+abbrev pub ForPlan : Option Command → (Plan → Type 0) → Type 0
+ForPlan command P = IfSome command (λ c. (plan : Plan) → IsPlan c plan → P plan)
+
+-- the pages of a run
+abbrev pub names_of : Plan → List (List ℕ)
+names_of (alone a) = []
+names_of (over line names) = names
+
+-- the lines of pages, up to the first name that is not there
+abbrev pub page_answers : (List ℕ → List ℕ → Answer) → List (List ℕ × List ℕ) → List (List ℕ) → List Answer
+page_answers line told [] = []
+page_answers line told (name ∷ names) = option_map_or (λ bytes. line name bytes ∷ page_answers line told names) (page told name) []
+
+-- the lines of a run: its output is their bytes, and the truth whether one of them holds a refusal
+abbrev pub answers : Plan → List (List ℕ × List ℕ) → List Answer
+answers (alone a) told = a ∷ []
+answers (over line names) told = page_answers line told names
+
+-- what is told of the pages: a run without pages needs nothing told
+abbrev pub known : Plan → Option (List (List ℕ × List ℕ)) → Option (List (List ℕ × List ℕ))
+known (alone a) told = Some []
+known (over line names) told = told
+
+-- each of the pages is there
+abbrev pub HasAll : List (List ℕ × List ℕ) → List (List ℕ) → Type 0
+HasAll told [] = Unit {0}
+HasAll told (name ∷ names) = (page told name ≢ None) × HasAll told names
+
+-- the lines of the first pages of a run
+abbrev pub first_answers : Plan → List (List ℕ × List ℕ) → ℕ → List Answer
+first_answers (alone a) told i = []
+first_answers (over line names) told i = page_answers line told (take i names)
+
+-- The run ended at a page that was not read whole, after so many pages before it.
+pub record Stopped (plan : Plan) (told : Option (List (List ℕ × List ℕ))) (begun begun' faults faults' : ℕ) (taken taken' : Option (List ℕ)) : Type 0 where
+  pub before : ℕ
+  pub within : before < length (names_of plan)
+  pub count : Grows begun (before + 1) begun'
+  pub cause : Rose faults faults' ⊎ Lacks told (slice_index_or (names_of plan) before [])
+  pub there : IfSome told (λ pages. HasAll pages (take before (names_of plan)))
+  pub written : IfSome told (λ pages. taken' ≡ grown taken (bytes_of (first_answers plan pages before)))
+
+-- each page is there, all lines were written, and the truth of the output is this
+pub record Written (plan : Plan) (told : List (List ℕ × List ℕ)) (taken taken' : Option (List ℕ)) (refused : Bool) : Type 0 where
+  pub there : HasAll told (names_of plan)
+  pub truth : refuses (answers plan told) ≡ refused
+  pub all : taken' ≡ grown taken (bytes_of (answers plan told))
+
+-- All was written and the status is by its truth, or no memory was found.
+abbrev pub Completes : Plan → List (List ℕ × List ℕ) → Option (List ℕ) → Option (List ℕ) → Status → Type 0
+Completes plan told taken taken' status =
+    (status ≡ Memory) ⊎ (((status ≡ Done) × Written plan told taken taken' false) ⊎ ((status ≡ Refused) × Written plan told taken taken' true))
+
+-- All up to the page that is lacking was written, or no memory was found.
+abbrev pub Lacking : Plan → List (List ℕ × List ℕ) → Option (List ℕ) → Option (List ℕ) → Status → Type 0
+Lacking plan told taken taken' status =
+    (status ≡ Memory) ⊎ ((status ≡ ReadFault) × (taken' ≡ grown taken (bytes_of (answers plan told))))
+
+-- For the contracts of private functions: all that is said of how a run ended.
+pub record Ended (plan : Plan) (told : Option (List (List ℕ × List ℕ))) (begun begun' faults faults' : ℕ) (taken taken' : Option (List ℕ)) (sink sink' : ℕ) (status : Status) : Type 0 where
+  pub prefix : IfSome (known plan told) (λ pages. TakesPart taken (bytes_of (answers plan pages)) taken')
+  pub done : status ≡ Done → IfSome (known plan told) (λ pages. Written plan pages taken taken' false)
+  pub refused : status ≡ Refused → IfSome (known plan told) (λ pages. Written plan pages taken taken' true)
+  pub begun_all : (status ≡ Done) ⊎ (status ≡ Refused) → Grows begun (length (names_of plan)) begun'
+  pub read_fault : status ≡ ReadFault → Stopped plan told begun begun' faults faults' taken taken'
+  pub write_fault : status ≡ WriteFault → Rose sink sink'
+  pub used : status ≢ Usage

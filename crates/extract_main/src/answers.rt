@@ -1,0 +1,71 @@
+//! Lines with the truth whether they hold a refusal.
+ghost use Rattle.std.specs.Prelude.{◌≡◌, ◌++◌, IfOk, string_bytes, codes, false, true};
+ghost use Rattle.text_base.specs.Reasons.{selector_word};
+ghost use Rattle.css_meaning.specs.declared.selector.SelectorList.{SelectorList};
+ghost use Rattle.css_translate.specs.Printed.{printed};
+ghost use Rattle.css_translate.specs.Promise.{KeepsMeaning};
+ghost use Rattle.extract_main.specs.Lines.{reason_text};
+ghost use Rattle.extract_main.specs.Selecting.{Accepts};
+ghost use Rattle.extract_main.specs.Answers.{answer_of};
+ghost use Rattle.extract_main.specs.Output.{IsCssLine};
+
+use crate::css_parser::parse_selectors;
+use crate::json_lines::{css_line, reason_line};
+use css_meaning::Dialect;
+use css_translate::translate;
+use std::alloc::Global;
+use text_base::{NoMemory, SelectorFault};
+
+/// A line without its line feed, and whether it holds a refusal.
+#[derive(Drop)]
+pub struct Line {
+    pub text: String,
+    pub refused: bool,
+}
+
+/// The reason as it is printed.
+fn reason_of(alloc: Global, fault: SelectorFault) -> Result<String, NoMemory>
+    ensures { IfOk result (λ s. string_bytes s ≡ codes "css." ++ selector_word fault) }
+{
+    let Ok(mut reason) = String::from_str(alloc, "css.") else {
+        return Err(NoMemory);
+    };
+    match reason.push_str(fault.word()) {
+        Ok(()) => Ok(reason),
+        Err(_) => Err(NoMemory),
+    }
+}
+
+/// The line of a refusal.
+fn refusal(alloc: Global, fault: SelectorFault) -> Result<Line, NoMemory>
+    ensures { IfOk result (λ line. answer_of line ≡ record { text = reason_text (codes "css." ++ selector_word fault); refused = true }) }
+{
+    let reason = reason_of(alloc, fault)?;
+    let text = reason_line(alloc, reason.as_str())?;
+    Ok(Line {
+        text,
+        refused: true,
+    })
+}
+
+/// The line of a selector list: its specificity and its XPath, or why it is refused.
+pub fn css_answer(alloc: Global, dialect: Dialect, text: &str) -> Result<Line, NoMemory>
+    ensures line { IfOk result (λ line. IsCssLine dialect text.now (answer_of line)) }
+    ensures meaning { IfOk result (λ line. line.refused ≡ false → (list : SelectorList) → Accepts text.now list → KeepsMeaning dialect list (printed dialect list)) }
+{
+    match parse_selectors(alloc, text) {
+        Ok(list) => match translate(alloc, dialect, &list) {
+            Ok(xpath) => {
+                let text = css_line(alloc, &list, xpath.as_str())?;
+                Ok(Line {
+                    text,
+                    refused: false,
+                })
+            }
+            Err(SelectorFault::XPathLong) => refusal(alloc, SelectorFault::XPathLong),
+            Err(_) => Err(NoMemory),
+        },
+        Err(SelectorFault::Memory) => Err(NoMemory),
+        Err(fault) => refusal(alloc, fault),
+    }
+}

@@ -1,0 +1,20 @@
+//! Laws of the definitions that the contracts cite.
+ghost use Rattle.extract_main.specs.Laws.{ReadingLaw, PlanLaw, WordsLaw};
+
+/// Each text is one selector list or is refused for one reason, and both only where the XPath of
+/// the list is too long.
+pub fn one_reading()
+    ensures { ReadingLaw }
+{}
+
+/// Each command has exactly one plan, so its output is one list of lines.
+#[tactic(auto, using(crate::proofs::Plans::one_plan))]
+pub fn one_plan()
+    ensures { PlanLaw }
+{}
+
+/// The words have the form of a command exactly where they are the words of that command.
+#[tactic(auto, using(crate::proofs::Forms::words_read))]
+pub fn words_of_commands()
+    ensures { WordsLaw }
+{}

@@ -1,0 +1,70 @@
+//! The program `extract`: compiles CSS selectors to XPath.
+#![tactic(auto)]
+
+mod answers;
+mod css_lexer;
+mod css_parser;
+mod json_lines;
+mod laws;
+mod top;
+mod words;
+
+use crate::top::{Status, extract};
+use io_edges::{MemPages, StdoutSink};
+use std::env;
+use std::io::ErrorKind;
+use std::process::ExitCode;
+use text_base::Seq;
+
+/// The words after the program's name, or the status where no memory was found for them. Where a
+/// word is not UTF-8, there are none.
+fn words_of(rt: &HostRuntime) -> Result<Vec<String>, Status> {
+    let mut words = Vec::new(rt.alloc());
+    match env::args(rt) {
+        Ok(args) => {
+            for word in args.skip(1) {
+                if words.push(word).is_err() {
+                    return Err(Status::Memory);
+                }
+            }
+        }
+        Err(error) => {
+            if error.kind() == ErrorKind::OutOfMemory {
+                return Err(Status::Memory);
+            }
+        }
+    }
+    Ok(words)
+}
+
+/// Runs the program's words, which read no pages, on standard output.
+fn status_of(rt: &HostRuntime) -> Status {
+    match words_of(rt) {
+        Ok(words) => {
+            let files = Seq::from_vec(Vec::new(rt.alloc()));
+            let fails = Seq::from_vec(Vec::new(rt.alloc()));
+            let mut pages = MemPages::new(files, 1, fails);
+            let mut sink = StdoutSink::new(rt);
+            extract(rt.alloc(), words.as_slice(), &mut pages, &mut sink)
+        }
+        Err(status) => status,
+    }
+}
+
+fn main(rt: HostRuntime) -> ExitCode {
+    let status = status_of(&rt);
+    let message = match status {
+        Status::Done | Status::Refused => "",
+        Status::Usage => "extract: usage",
+        Status::Memory => "extract: no memory",
+        Status::ReadFault => "extract: read fault",
+        Status::WriteFault => "extract: write fault",
+    };
+    if !message.is_empty() {
+        let _ = rt.eprintln(message);
+    }
+    ExitCode::from(status.number())
+}
+
+#[cfg(test)]
+mod tests;

@@ -1,0 +1,9 @@
+pub mod Counts
+pub mod Pages
+pub mod Reading
+pub mod Sink
+pub mod Files
+pub mod Shelf
+pub mod Mem
+pub mod Sure
+pub mod Room

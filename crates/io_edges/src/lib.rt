@@ -1,0 +1,29 @@
+//! The outside: where pages are read from, and where lines are written.
+#![tactic(auto)]
+
+mod file_pages;
+mod mem_pages;
+mod mem_sink;
+mod null_sink;
+mod page_file;
+mod pages;
+mod read;
+mod shelf;
+mod sink;
+mod stdout_sink;
+mod sure_pages;
+#[cfg(test)]
+mod tests;
+mod write;
+
+pub use file_pages::FilePages;
+pub use mem_pages::MemPages;
+pub use mem_sink::MemSink;
+pub use null_sink::NullSink;
+pub use page_file::PageFile;
+pub use pages::{BeginFault, Failed, Pages};
+pub use read::{PAGE_LIMIT, ReadEnd, read_page};
+pub use sink::Sink;
+pub use stdout_sink::StdoutSink;
+pub use sure_pages::SurePages;
+pub use write::{WriteFault, write_whole};

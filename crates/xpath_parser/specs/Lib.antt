@@ -1,0 +1,9 @@
+pub mod Conversions
+pub mod Denote
+pub mod Functions
+pub mod Grammar
+pub mod Laws
+pub mod Reader
+pub mod Reading
+pub mod Shapes
+pub mod Terms

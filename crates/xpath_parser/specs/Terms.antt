@@ -1,0 +1,186 @@
+-- The lexical rule of XPath 1.0, section 3.7: what a token is, by the token before it and the token after it.
+use Rattle.std.specs.Prelude.{ℕ, ◌+◌, ◌-◌, ◌*◌, ◌≤◌, Bool, true, false, ◌==◌, nat_le, if◌then◌else◌, List, [], ◌∷◌, length, take, count_by, Option, Some, None, codes, pos}
+use Rattle.std.specs.List.{list_any, fold}
+use Rattle.std.specs.Str.{chars, bytes_eq}
+use Rattle.doc_model.specs.declared.Axis.{Axis}
+use Rattle.doc_model.specs.declared.Axis.TheVariants as axis
+use Rattle.xpath_lexer.specs.declared.token.XKind.{XKind}
+use Rattle.xpath_lexer.specs.declared.token.XKind.TheVariants as k
+use Rattle.xpath_lexer.specs.Tokens.{Text, Lexeme}
+use Rattle.xpath_parser.specs.declared.expression.Func.{Func}
+use Rattle.xpath_parser.specs.declared.expression.Func.TheVariants as f
+use Rattle.xpath_parser.specs.declared.term.NodeType.{NodeType}
+use Rattle.xpath_parser.specs.declared.term.NodeType.TheVariants as node_type
+use Rattle.xpath_parser.specs.declared.term.Term.{Term}
+use Rattle.xpath_parser.specs.declared.term.Term.TheVariants as t
+
+-- ---- the names of section 2.2, 2.3, 3.3 to 3.5 and 4
+
+-- what a name stands for in a table of names
+abbrev pub named_in : {A : Type 0} → List (Text × A) → Text → Option A
+named_in [] n = None
+named_in (p ∷ ps) n = if bytes_eq n p.0 then Some p.1 else named_in ps n
+
+unfoldable pub axis_names : List (Text × Axis)
+axis_names =
+    (codes "child", axis.Child) ∷ (codes "descendant", axis.Descendant) ∷ (codes "parent", axis.Parent) ∷ (codes "ancestor", axis.Ancestor)
+    ∷ (codes "following-sibling", axis.FollowingSibling) ∷ (codes "preceding-sibling", axis.PrecedingSibling)
+    ∷ (codes "following", axis.Following) ∷ (codes "preceding", axis.Preceding) ∷ (codes "attribute", axis.Attribute)
+    ∷ (codes "namespace", axis.Namespace) ∷ (codes "self", axis.OwnSelf) ∷ (codes "descendant-or-self", axis.DescendantOrSelf)
+    ∷ (codes "ancestor-or-self", axis.AncestorOrSelf) ∷ []
+
+unfoldable pub node_type_names : List (Text × NodeType)
+node_type_names =
+    (codes "node", node_type.Node) ∷ (codes "text", node_type.Text) ∷ (codes "comment", node_type.Comment)
+    ∷ (codes "processing-instruction", node_type.Instruction) ∷ []
+
+unfoldable pub function_names : List (Text × Func)
+function_names =
+    (codes "last", f.Last) ∷ (codes "position", f.Position) ∷ (codes "count", f.Count) ∷ (codes "id", f.Id)
+    ∷ (codes "local-name", f.LocalName) ∷ (codes "namespace-uri", f.NamespaceUri) ∷ (codes "name", f.Name)
+    ∷ (codes "string", f.Str) ∷ (codes "concat", f.Concat) ∷ (codes "starts-with", f.StartsWith) ∷ (codes "contains", f.Contains)
+    ∷ (codes "substring-before", f.SubstringBefore) ∷ (codes "substring-after", f.SubstringAfter) ∷ (codes "substring", f.Substring)
+    ∷ (codes "string-length", f.StringLength) ∷ (codes "normalize-space", f.NormalizeSpace) ∷ (codes "translate", f.Translate)
+    ∷ (codes "boolean", f.Boolean) ∷ (codes "not", f.Not) ∷ (codes "true", f.True) ∷ (codes "false", f.False) ∷ (codes "lang", f.Lang)
+    ∷ (codes "number", f.Number) ∷ (codes "sum", f.Sum) ∷ (codes "floor", f.Floor) ∷ (codes "ceiling", f.Ceiling) ∷ (codes "round", f.Round) ∷ []
+
+unfoldable pub operator_names : List (Text × Term)
+operator_names = (codes "or", t.Or) ∷ (codes "and", t.And) ∷ (codes "mod", t.Mod) ∷ (codes "div", t.Div) ∷ []
+
+-- ---- the terms
+
+abbrev pub operator_term : Option Term → Term
+operator_term (Some w) = w
+operator_term None = t.Unknown
+
+abbrev pub axis_term : Option Axis → Term
+axis_term (Some a) = t.Axis a
+axis_term None = t.Unknown
+
+abbrev pub function_term : Option Func → Term
+function_term (Some g) = t.Function g
+function_term None = t.UnknownFunction
+
+-- a name before `(` is a node type, or else a function's
+abbrev pub called_term : Option NodeType → Text → Term
+called_term (Some n) w = t.NodeType n
+called_term None w = function_term (named_in function_names w)
+
+-- a name that is no operator, by the kind of the token after it
+abbrev pub name_term : Option XKind → Text → Term
+name_term (Some k.DoubleColon) w = axis_term (named_in axis_names w)
+name_term (Some k.OpenRound) w = called_term (named_in node_type_names w) w
+name_term _ w = t.Name (chars w)
+
+abbrev pub digits_value : Text → ℕ
+digits_value ds = fold (λ n d. n * 10 + (d - 48)) 0 ds
+
+abbrev pub number_term : Text → Term
+number_term w =
+    if list_any (λ b. b == 46) w then t.Fraction else
+    if nat_le (digits_value w) 9007199254740991 then t.Number (pos (digits_value w)) else t.TooLarge
+
+-- What a token is. `after` says that the token before it is there and is none of `@`, `::`, `(`, `[`, `,` and an operator.
+abbrev pub term_of : Bool → XKind → Text → Option XKind → Term
+term_of true k.Name w next = operator_term (named_in operator_names w)
+term_of false k.Name w next = name_term next w
+term_of true k.Star w next = t.Times
+term_of false k.Star w next = t.AnyName
+term_of after k.OpenRound w next = t.OpenRound
+term_of after k.CloseRound w next = t.CloseRound
+term_of after k.OpenSquare w next = t.OpenSquare
+term_of after k.CloseSquare w next = t.CloseSquare
+term_of after k.Dot w next = t.Dot
+term_of after k.DotDot w next = t.DotDot
+term_of after k.At w next = t.At
+term_of after k.Comma w next = t.Comma
+term_of after k.DoubleColon w next = t.DoubleColon
+term_of after k.Literal w next = t.Literal (chars w)
+term_of after k.Number w next = number_term w
+term_of after k.Prefixed w next = t.Prefixed
+term_of after k.Variable w next = t.Variable
+term_of after k.Slash w next = t.Slash
+term_of after k.DoubleSlash w next = t.DoubleSlash
+term_of after k.Bar w next = t.Bar
+term_of after k.Plus w next = t.Plus
+term_of after k.Minus w next = t.Minus
+term_of after k.Equal w next = t.Equal
+term_of after k.Unequal w next = t.Unequal
+term_of after k.Less w next = t.Less
+term_of after k.LessEqual w next = t.LessEqual
+term_of after k.Greater w next = t.Greater
+term_of after k.GreaterEqual w next = t.GreaterEqual
+
+-- the term is none of `@`, `::`, `(`, `[`, `,` and an operator
+abbrev pub is_operand : Term → Bool
+is_operand t.At = false
+is_operand t.DoubleColon = false
+is_operand t.OpenRound = false
+is_operand t.OpenSquare = false
+is_operand t.Comma = false
+is_operand t.Slash = false
+is_operand t.DoubleSlash = false
+is_operand t.Bar = false
+is_operand t.Plus = false
+is_operand t.Minus = false
+is_operand t.Equal = false
+is_operand t.Unequal = false
+is_operand t.Less = false
+is_operand t.LessEqual = false
+is_operand t.Greater = false
+is_operand t.GreaterEqual = false
+is_operand t.Or = false
+is_operand t.And = false
+is_operand t.Times = false
+is_operand t.Mod = false
+is_operand t.Div = false
+is_operand _ = true
+
+abbrev pub next_kind : List Lexeme → Option XKind
+next_kind [] = None
+next_kind (w ∷ ws) = Some w.kind
+
+-- the terms of the tokens that stand after such a token, or not
+abbrev pub terms_after : Bool → List Lexeme → List Term
+terms_after after [] = []
+terms_after after (w ∷ ws) =
+    let found = term_of after w.kind w.text (next_kind ws) in found ∷ terms_after (is_operand found) ws
+
+abbrev pub terms : List Lexeme → List Term
+terms ws = terms_after false ws
+
+-- ---- what makes no expression although the grammar reads it
+
+-- a fraction, a number beyond 2^53 - 1, `div`, a variable, a prefixed name, a function that is not known
+abbrev pub is_refused : Term → Bool
+is_refused t.Fraction = true
+is_refused t.TooLarge = true
+is_refused t.Div = true
+is_refused t.Variable = true
+is_refused t.Prefixed = true
+is_refused t.UnknownFunction = true
+is_refused _ = false
+
+abbrev pub is_open : Lexeme → Bool
+is_open w = opens w.kind
+  where
+    opens : XKind → Bool
+    opens k.OpenRound = true
+    opens k.OpenSquare = true
+    opens _ = false
+
+abbrev pub is_close : Lexeme → Bool
+is_close w = closes w.kind
+  where
+    closes : XKind → Bool
+    closes k.CloseRound = true
+    closes k.CloseSquare = true
+    closes _ = false
+
+-- the most brackets that may be open
+abbrev pub most_open : ℕ
+most_open = 64
+
+-- At no token are the `(` and `[` so far more than the `)` and `]` so far by more than 64.
+abbrev pub IsShallow : List Lexeme → Type 0
+IsShallow ws = (i : ℕ) → i ≤ length ws → count_by is_open (take i ws) ≤ count_by is_close (take i ws) + most_open

@@ -1,0 +1,10 @@
+//! XPath text: what it reads as, of which type that is, and what it means in a document.
+#![tactic(auto)]
+
+mod expression;
+mod laws;
+mod term;
+
+pub use expression::{Expr, Func, Infix, Operand, Start, Step};
+pub use laws::{found_exactly, one_expression, one_reading};
+pub use term::{NodeType, Term};

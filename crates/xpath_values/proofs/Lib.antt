@@ -1,0 +1,3 @@
+mod Scanned
+mod Texts
+mod Worked
