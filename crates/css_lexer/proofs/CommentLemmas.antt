@@ -1,10 +1,8 @@
 -- The length of a comment.
-use Rattle.std.proofs.Common.{◌≡◌, ℕ, zero, suc, ◌+◌, ◌-◌, ◌<◌, ◌≤◌, Bool, true, false, cond, List, [], ◌∷◌, length, get_or, refl, sym, ◌∙◌, ap, subst, arith, eqb-true, ltb, lit<}
+use Rattle.std.proofs.Common.{◌≡◌, ℕ, zero, suc, ◌+◌, ◌-◌, ◌<◌, ◌≤◌, Bool, true, false, cond, List, [], ◌∷◌, length, get_or, refl, ◌∙◌, ap, subst, arith, eqb-true, ltb, lit<}
 use Rattle.std.specs.Prelude.{◌==◌, ◌&&◌}
 use Rattle.std.specs.Str.{IsAscii}
-use Rattle.text_base.specs.Text.{find_where, begins_with, IsPlace}
 use Rattle.text_base.proofs.Boundaries.{in_text}
-use Rattle.css_lexer.specs.Steps.{Steps}
 use Rattle.css_lexer.specs.Comments.{opens_comment, closing_at, comment_len, Comments}
 use Rattle.css_lexer.proofs.EscapeLemmas.{both_true}
 

@@ -1,6 +1,5 @@
 -- What a backslash takes with it, and content unit by unit.
-use Rattle.std.proofs.Common.{◌≡◌, ℕ, ◌+◌, ◌-◌, ◌<◌, ◌≤◌, Bool, true, false, cond, List, [], ◌∷◌, ◌++◌, length, get_or, take, drop, flat_map, IsUtf8, refl, sym, ◌∙◌, ap, subst, arith, append_assoc, ltb, eqb-true}
-use borrow.Author.Tests.{ltb-true}
+use Rattle.std.proofs.Common.{◌≡◌, ℕ, ◌+◌, ◌-◌, ◌<◌, ◌≤◌, true, cond, List, [], ◌∷◌, ◌++◌, length, get_or, take, drop, IsUtf8, refl, sym, ◌∙◌, ap, subst, arith, append_assoc, ltb, eqb-true}
 use Rattle.std.specs.Prelude.{◌==◌, ◌&&◌, slice_range}
 use Rattle.std.proofs.lemmas.List.{append-nil}
 use Rattle.std.proofs.lemmas.Bool.Decides.{nat_tests}
@@ -10,7 +9,7 @@ use Rattle.text_base.proofs.Runs.{run_end_le, run_end_from}
 use Rattle.css_lexer.specs.declared.contents.Content.{Content}
 use Rattle.css_lexer.specs.declared.contents.Content.TheVariants.{Name, Double, Single}
 use Rattle.css_lexer.specs.Escapes.{is_break, escape_len, escape_value}
-use Rattle.css_lexer.specs.Contents.{is_plain, newline_len, lost_len, slashed_len, slashed_value, unit_len, unit_value, Reads}
+use Rattle.css_lexer.specs.Contents.{is_plain, newline_len, lost_len, slashed_len, slashed_value, unit_len, unit_value}
 use Rattle.css_lexer.specs.Pushing.{Pushes}
 use Rattle.css_lexer.proofs.EscapeLemmas.{cases_if, both_true, fits_if, zero_if, escape_fits, no_escape}
 
@@ -55,9 +54,9 @@ pub unit_fits : (content : Content) (text : List ℕ) (i : ℕ) → i ≤ length
 unit_fits content text i low =
     fits_if (get_or text i 0 == 92) i (slashed_len content text i) (run_end (is_plain content) text i - i) _
     (λ h. let inside = in_text text i (omega (arith, eqb-true (get_or text i 0) 92 h)) in
-      fits_if (ltb 0 (lost_len content text (i + 1))) i (1 + lost_len content text (i + 1)) (escape_len text i) _
-      (λ _. omega (arith, lost_fits content text (i + 1) (omega arith)))
-      (λ _. escape_fits text i inside))
+    fits_if (ltb 0 (lost_len content text (i + 1))) i (1 + lost_len content text (i + 1)) (escape_len text i) _
+    (λ _. omega (arith, lost_fits content text (i + 1) (omega arith)))
+    (λ _. escape_fits text i inside))
     (λ _. omega (arith, run_end_le (is_plain content) text i low, run_end_from (is_plain content) text i))
 
 -- a unit of no length stands for nothing

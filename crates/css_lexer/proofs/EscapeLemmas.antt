@@ -1,5 +1,5 @@
 -- Numbers of escapes.
-use Rattle.std.proofs.Common.{◌≡◌, ℕ, ◌+◌, ◌-◌, ◌*◌, ◌<◌, ◌≤◌, List, [], ◌∷◌, ◌++◌, length, get_or, take, drop, sym, refl, ◌∙◌, ap, arith, inl, inr, true, false, not, Bool, cond, IsUtf8, ◌&&◌, ◌||◌, leb, ltb, eqb-true, leb-false, subst}
+use Rattle.std.proofs.Common.{◌≡◌, ℕ, ◌+◌, ◌*◌, ◌<◌, ◌≤◌, List, [], ◌∷◌, length, get_or, sym, refl, ◌∙◌, ap, arith, inl, inr, true, false, not, Bool, cond, IsUtf8, ◌&&◌, leb, ltb, eqb-true, leb-false, subst}
 use borrow.Author.Tests.{ltb-true}
 use Rattle.std.specs.Prelude.{◌==◌}
 use Rattle.text_base.proofs.Boundaries.{in_text}
@@ -8,8 +8,8 @@ use Rattle.std.specs.Char.{digit_value}
 use Rattle.std.proofs.lemmas.Grind.{fold-append}
 use Rattle.std.proofs.lemmas.List.Edits.{between_more}
 use Rattle.css_lexer.specs.Escapes.{is_hex, is_break, hex_value, hex_len, char_of, escape_len, escape_value, blank_len, is_escapable}
-use Rattle.text_base.specs.Text.{run_end, is_space5}
-use Rattle.text_base.proofs.Boundaries.{place, wide_boundary, past_byte, before_ascii, after_ascii}
+use Rattle.text_base.specs.Text.{is_space5}
+use Rattle.text_base.proofs.Boundaries.{past_byte, before_ascii, after_ascii}
 use Rattle.text_base.specs.Text.{IsPlace}
 use Rattle.text_base.proofs.Runs.{run_end_passes, run_end_le, run_end_from, run_end_step}
 use Rattle.std.proofs.lemmas.Bool.{cases_lt}

@@ -1,15 +1,13 @@
 -- Tokens, one after the other.
-use Rattle.std.proofs.Common.{◌≡◌, ℕ, ◌+◌, ◌-◌, ◌<◌, ◌≤◌, Bool, true, false, cond, List, [], ◌∷◌, ◌++◌, length, get_or, refl, sym, ◌∙◌, ap, subst, arith, ltb, leb, eqb-true}
+use Rattle.std.proofs.Common.{◌≡◌, ℕ, ◌+◌, ◌-◌, ◌<◌, ◌≤◌, Bool, true, false, cond, List, [], ◌∷◌, ◌++◌, length, get_or, sym, subst, arith, ltb, leb}
 use borrow.Author.Tests.{ltb-true}
-use Rattle.std.specs.Prelude.{◌==◌, ◌||◌, Some, None, Result, Ok, Err, OnOk}
+use Rattle.std.specs.Prelude.{◌==◌, ◌||◌, Some, Result, Ok, Err, OnOk}
 use Rattle.std.specs.Result.{is_ok}
 use Rattle.std.proofs.lemmas.Bool.Decides.{nat_tests}
 use Rattle.text_base.specs.Text.{run_end, is_letter}
-use Rattle.text_base.proofs.Boundaries.{in_text}
 use Rattle.text_base.proofs.Runs.{run_end_step, run_end_from}
 use Rattle.css_lexer.specs.declared.tokens.CssToken.{CssToken}
-use Rattle.css_lexer.specs.declared.contents.Content.{Content}
-use Rattle.css_lexer.specs.declared.contents.Content.TheVariants.{Name, Double, Single}
+use Rattle.css_lexer.specs.declared.contents.Content.TheVariants.{Name}
 use Rattle.css_lexer.specs.Steps.{Steps}
 use Rattle.css_lexer.specs.Escapes.{escape_len}
 use Rattle.css_lexer.specs.Contents.{is_plain, slashed_len, unit_len, Reads}

@@ -1,5 +1,5 @@
 -- One token at a place, one list for a text.
-use Rattle.std.proofs.Common.{◌≡◌, ℕ, ◌+◌, ◌<◌, ◌≤◌, Bool, true, false, cond, List, [], ◌∷◌, length, get_or, flat_map, refl, sym, ◌∙◌, ap, subst, arith}
+use Rattle.std.proofs.Common.{◌≡◌, ℕ, ◌+◌, ◌<◌, Bool, true, false, cond, List, [], ◌∷◌, length, get_or, flat_map, refl, sym, ◌∙◌, ap, subst, arith}
 use Rattle.std.specs.Prelude.{◌==◌, Option, Some, None}
 use Rattle.std.specs.Str.{chars}
 use Rattle.std.proofs.lemmas.List.{get_or_past}
@@ -12,7 +12,7 @@ use Rattle.css_lexer.specs.declared.contents.Content.{Content}
 use Rattle.css_lexer.specs.Steps.{Steps}
 use Rattle.css_lexer.specs.Contents.{unit_len, unit_value, Reads}
 use Rattle.css_lexer.specs.Comments.{comment_len, Comments}
-use Rattle.css_lexer.specs.Tokens.{token, short_token, symbol_at, rule_at, name_token, hash_token, quoted_token, NameAt, HashAt, QuotedAt, ReadsBy, TokenAt, Spell, Lexes, Stops, most_bytes}
+use Rattle.css_lexer.specs.Tokens.{token, short_token, symbol_at, rule_at, name_token, hash_token, quoted_token, NameAt, HashAt, QuotedAt, ReadsBy, TokenAt, Spell, Lexes, Stops}
 
 -- steps come to one end, by one list of places
 places_same : (p q : ℕ) (ps qs : List ℕ) → p ≡ q → ps ≡ qs → p ∷ ps ≡ q ∷ qs

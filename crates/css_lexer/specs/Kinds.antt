@@ -1,5 +1,5 @@
 -- No kind of bytes here parts the bytes past ASCII.
-use Rattle.std.specs.Prelude.{ℕ, ◌⊎◌, ◌≤◌}
+use Rattle.std.specs.Prelude.{◌⊎◌}
 use Rattle.std.proofs.Common.{arith, inl, inr}
 use Rattle.std.proofs.lemmas.Bool.Decides.{nat_tests}
 use Rattle.text_base.specs.Text.{IsWide, IsNarrow}

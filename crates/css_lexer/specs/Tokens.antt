@@ -1,7 +1,7 @@
 -- The tokens of a selector, after Selectors Level 3, section 10.
 use Rattle.std.specs.Prelude.{◌≡◌, ℕ, ◌+◌, ◌<◌, ◌≤◌, ◌==◌, ◌&&◌, ◌||◌, Bool, List, [], ◌∷◌, length, slice_index, nat_le, nat_lt, if◌then◌else◌, Option, Some, None, Result, Ok, Err}
 use Rattle.std.specs.Str.{chars}
-use Rattle.text_base.specs.Text.{run_end, is_letter, is_space5}
+use Rattle.text_base.specs.Text.{run_end, is_letter, is_space5, IsPlace}
 use Rattle.text_base.specs.declared.reasons.SelectorFault.{SelectorFault}
 use Rattle.text_base.specs.declared.reasons.SelectorFault.TheVariants as fault
 use Rattle.css_lexer.specs.declared.tokens.CssKind.{CssKind}
@@ -120,6 +120,12 @@ TokenAt text i read = ReadsBy (rule_at text i) text i read
 abbrev pub Spell : List ℕ → ℕ → List CssToken → ℕ → Type 0
 Spell text i [] j = Comments text i j
 Spell text i (t ∷ tokens) j = Comments text i t.from × TokenAt text t.from (Some t) × Spell text t.to tokens j
+
+-- The token has bytes, and the text may be cut where it begins and where it ends.
+pub record SitsIn (text : List ℕ) (t : CssToken) : Type 0 where
+  pub order : t.from < t.to
+  pub starts : IsPlace text t.from
+  pub ends : IsPlace text t.to
 
 -- the most bytes that a selector may have
 abbrev pub most_bytes : ℕ

@@ -68,7 +68,12 @@ fn lost_len(text: &str, content: Content, at: usize) -> usize
 
 /// Adds what a backslash and what it takes with it stand for, and says how many bytes they are.
 #[tactic(auto, using(crate::proofs::ContentLemmas::lost_place, crate::proofs::ContentLemmas::no_bytes))]
-fn push_slashed(text: &str, content: Content, at: usize, out: &mut String) -> Result<usize, AllocError>
+fn push_slashed(
+    text: &str,
+    content: Content,
+    at: usize,
+    out: &mut String,
+) -> Result<usize, AllocError>
     requires within { at < length text.now }
     requires slash { slice_index text.now at ≡ 92 }
     ensures len { IfOk result (λ n. n ≡ slashed_len content text.now at) }
@@ -103,7 +108,12 @@ fn push_unit(text: &str, content: Content, at: usize, out: &mut String) -> Resul
 }
 
 /// Adds what the content from a place on stands for, and says where it ends.
-fn push_content(text: &str, content: Content, from: usize, out: &mut String) -> Result<usize, AllocError>
+fn push_content(
+    text: &str,
+    content: Content,
+    from: usize,
+    out: &mut String,
+) -> Result<usize, AllocError>
     requires within { from ≤ length text.now }
     requires place { IsPlace text.now from }
     ensures pushes { IfOk result (λ end. Pushes content text.now from (string_bytes out.old) end (string_bytes out.new)) }
@@ -128,7 +138,12 @@ pub(crate) struct Read {
 }
 
 /// The content from a place on.
-pub(crate) fn read_content(alloc: Global, text: &str, content: Content, from: usize) -> Result<Read, NoMemory>
+pub(crate) fn read_content(
+    alloc: Global,
+    text: &str,
+    content: Content,
+    from: usize,
+) -> Result<Read, NoMemory>
     requires within { from ≤ length text.now }
     requires place { IsPlace text.now from }
     ensures reads { IfOk result (λ read. (value : List ℕ) × Reads content text.now from read.end value × (read.value ≡ chars value)) }

@@ -5,5 +5,4 @@ ghost use Rattle.css_lexer.specs.Laws.{HasOneList, IsReadOrStops};
 pub fn one_list_or_fault()
     ensures one_list { HasOneList }
     ensures not_both { IsReadOrStops }
-{
-}
+{}

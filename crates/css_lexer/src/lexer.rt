@@ -1,8 +1,9 @@
 ghost use Rattle.std.specs.Prelude.{◌≡◌, ◌+◌, ◌<◌, ◌≤◌, [], true, IfOk, IfSome, Some, length, slice_index};
+ghost use Rattle.std.specs.List.{All};
 ghost use Rattle.text_base.specs.Text.{IsPlace};
 ghost use Rattle.css_lexer.specs.Comments.{opens_comment, comment_len, Comments};
 ghost use Rattle.css_lexer.specs.Pushing.{EndsBehind, EndsIfSome};
-ghost use Rattle.css_lexer.specs.Tokens.{starts_ident, symbol_at, token, NameAt, HashAt, QuotedAt, TokenAt, IsLexed, most_bytes};
+ghost use Rattle.css_lexer.specs.Tokens.{starts_ident, symbol_at, token, NameAt, HashAt, QuotedAt, TokenAt, IsLexed, SitsIn, most_bytes};
 
 use crate::contents::{Content, read_content};
 use crate::rules::{Rule, kind_of_one, kind_of_two, rule_at};
@@ -150,7 +151,13 @@ fn read_hash(alloc: Global, text: &str, at: usize) -> Result<Option<CssToken>, N
 }
 
 /// The string at a place, or none where its quote does not stand behind its content.
-fn read_quoted(alloc: Global, text: &str, content: Content, quote: u8, at: usize) -> Result<Option<CssToken>, NoMemory>
+fn read_quoted(
+    alloc: Global,
+    text: &str,
+    content: Content,
+    quote: u8,
+    at: usize,
+) -> Result<Option<CssToken>, NoMemory>
     requires within { at < length text.now }
     requires quote { slice_index text.now at ≡ quote }
     requires some { 0 < quote }
@@ -202,7 +209,8 @@ fn read_token(alloc: Global, text: &str, at: usize) -> Result<Option<CssToken>, 
 /// where behind some tokens no token begins; a comment that does not end is no token. Places are
 /// bytes, values are characters. After Selectors Level 3, section 10.
 pub fn css_tokens(alloc: Global, text: &str) -> Result<Items<CssToken>, SelectorFault>
-    ensures { IsLexed text.now result }
+    ensures lexed { IsLexed text.now result }
+    ensures places { IfOk result (All (SitsIn text.now)) }
 {
     if text.len() > MOST_BYTES {
         return Err(SelectorFault::Long);

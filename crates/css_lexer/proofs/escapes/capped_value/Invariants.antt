@@ -1,4 +1,4 @@
-use Rattle.std.proofs.Common.{◌≡◌, ◌-◌, ◌≤◌, length}
+use Rattle.std.proofs.Common.{◌≡◌, ◌-◌, ◌≤◌}
 use Rattle.std.specs.Prelude.{min}
 use Rattle.css_lexer.specs.Escapes.{hex_value}
 use Rattle.css_lexer.proofs.escapes.capped_value.Given as goal
