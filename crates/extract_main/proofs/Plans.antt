@@ -1,5 +1,5 @@
 -- Each command has exactly one plan.
-use Rattle.std.proofs.Common.{◌≡◌, refl, ℕ, ◌<◌, ◌≤◌, Bool, true, false, List, [], ◌∷◌, ◌++◌, length, ap, sym, ◌∙◌, subst, Option, Some, arith, inl, inr, ◌⊎◌, codes}
+use Rattle.std.proofs.Common.{◌≡◌, refl, ℕ, ◌<◌, ◌≤◌, true, false, List, ◌++◌, length, ap, sym, ◌∙◌, subst, Option, Some, arith, inl, inr, ◌⊎◌, codes}
 use Rattle.std.specs.Prelude.{Result, IfOk, IsOkAnd, Ok, Err}
 use Rattle.std.proofs.lemmas.Result.{IfOk-weaker}
 use Rattle.text_base.specs.declared.memory.NoMemory.{NoMemory}

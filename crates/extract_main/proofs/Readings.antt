@@ -11,14 +11,13 @@ use Rattle.css_meaning.specs.declared.selector.SelectorList.{SelectorList}
 use Rattle.css_meaning.specs.declared.selector.Tail.TheVariants as tail
 use Rattle.css_translate.specs.Printed.{printed}
 use Rattle.css_translate.specs.Promise.{KeepsMeaning}
-use Rattle.extract_main.specs.declared.css_lexer.CssToken.{CssToken}
 use Rattle.extract_main.specs.declared.css_parser.Place.TheVariants as place
 use Rattle.extract_main.specs.CssTokens.{is_built}
 use Rattle.extract_main.specs.Machine.{machine}
 use Rattle.extract_main.specs.Selecting.{Accepts, IsLong, IsUnbuilt, IsWrong, most_selector}
 use Rattle.extract_main.specs.Output.{Refuses, IsXPathLong}
 use Rattle.extract_main.specs.Laws.{OneReading}
-use Rattle.extract_main.proofs.GrammarLemmas.{sound, parts_read}
+use Rattle.extract_main.proofs.GrammarLemmas.{parts_read}
 use Rattle.extract_main.proofs.OneCss.{one_spelling}
 use Rattle.extract_main.proofs.SelectingLemmas.{accepted, not_accepted}
 use Rattle.extract_main.proofs.Spellings.{Spelling, spelling, spelled_built}
