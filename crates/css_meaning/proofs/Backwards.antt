@@ -1,20 +1,16 @@
 -- Reading from the right and from the left come to the same.
-use Rattle.std.proofs.Common.{◌≡◌, refl, ℕ, Bool, true, false, ◌&&◌, ◌||◌, eqb, List, [], ◌∷◌, ap, sym, ◌∙◌, filter, map, reverse, ◌<◌, ◌≤◌, length, zero, suc, arith, ◌+◌, inl, inr, ltb}
-use Rattle.std.proofs.lemmas.Bool.{lt-ltb}
-use Rattle.std.proofs.lemmas.Bool.Decides.{eqb_tells}
-use Rattle.std.specs.List.{range_with_len}
+use Rattle.std.proofs.Common.{◌≡◌, refl, ℕ, true, ◌&&◌, ◌||◌, eqb, List, [], ◌∷◌, ap, sym, ◌∙◌, ◌<◌, length, zero, suc, arith}
 use mathlib.Core.List.{reverse_aux}
-use Rattle.std.specs.List.{list_any, AllByRecursion}
-use Rattle.doc_model.specs.Document.{Document, rows, row, below, below_within, IsDocument, IsRow}
+use Rattle.std.specs.List.{list_any}
+use Rattle.doc_model.specs.Document.{Document, rows, below, IsDocument}
 use Rattle.doc_model.proofs.Below.{small, root_above}
 use Rattle.css_meaning.specs.declared.selector.Dialect.{Dialect}
 use Rattle.css_meaning.specs.declared.selector.Part.{Part}
 use Rattle.css_meaning.specs.Matching.{leads, reaches_by, matches_back, matches_by, linked, holds}
 use Rattle.css_meaning.proofs.ListTests as Tests
 use Rattle.css_meaning.proofs.ListTests.{is_in}
-use Rattle.css_meaning.proofs.Finding.{in_rows, row_within}
+use Rattle.css_meaning.proofs.Finding.{in_rows}
 use Rattle.css_meaning.specs.Reaching.{MatchesLaw}
-use Rattle.css_meaning.specs.declared.selector.Selector.{Selector}
 
 module _ (doc : Document) (d : Dialect) where
   -- parts read from the right, those on the left of them read already

@@ -3,6 +3,7 @@ use Rattle.std.proofs.Common.{refl}
 use Rattle.doc_model.specs.Document.{below_within}
 use Rattle.css_meaning.specs.Nth.{is_nth}
 use Rattle.css_meaning.specs.Matching.{simple_holds, leads, reaches_by}
+use Rattle.css_meaning.proofs.Made.{well_made, needs_a_type}
 use Rattle.css_meaning.specs.Examples.{WorkedAnswers}
 
 pub worked : WorkedAnswers
@@ -18,4 +19,6 @@ worked = record {
   odd_counts = refl;
   middle_counts = refl;
   english_counts = refl;
+  well_made = well_made;
+  needs_a_type = needs_a_type;
 }

@@ -1,5 +1,5 @@
 -- A small document and what some selectors give on it.
-use Rattle.std.specs.Prelude.{◌≡◌, ℕ, Bool, true, false, List, [], ◌∷◌, Option, Some, None, codes, ℤ, pos, negsuc}
+use Rattle.std.specs.Prelude.{◌≡◌, ℕ, true, false, List, [], ◌∷◌, Option, Some, None, codes, pos, negsuc}
 use Rattle.doc_model.specs.Document.{Document, Row}
 use Rattle.doc_model.specs.declared.Kind.TheVariants as kind
 use Rattle.css_meaning.specs.declared.selector.Dialect.TheVariants.{Generic, Html}
@@ -19,6 +19,7 @@ use Rattle.css_meaning.specs.declared.selector.Test.TheVariants as test
 use Rattle.css_meaning.specs.declared.selector.Triple.{Triple}
 use Rattle.css_meaning.specs.Specificity.{triple_of}
 use Rattle.css_meaning.specs.Matching.{answers}
+use Rattle.css_meaning.specs.WellMade.{WellMade}
 
 abbrev pub element : List ℕ → ℕ → Row
 element name parent = record { kind = kind.Element; name = name; text = []; parent = parent }
@@ -65,37 +66,41 @@ alone s = record { items = s ∷ [] }
 abbrev pub odd_items : Selector
 odd_items =
     selector
-      (part link.First (Some (codes "ul")) (is (test.Class (codes "wide")) ∷ [])
-      ∷ part link.Child (Some (codes "LI")) (is (test.Nth nth.Child (pos 2) (pos 1)) ∷ [])
-      ∷ [])
-      tail.Element
+    (part link.First (Some (codes "ul")) (is (test.Class (codes "wide")) ∷ [])
+    ∷ part link.Child (Some (codes "LI")) (is (test.Nth nth.Child (pos 2) (pos 1)) ∷ [])
+    ∷ [])
+    tail.Element
 
 -- li + li:not(:nth-last-of-type(-n+1))::text
 abbrev pub middle_text : Selector
 middle_text =
     selector
-      (part link.First (Some (codes "li")) []
-      ∷ part link.Next (Some (codes "li")) (is_not (test.Nth nth.LastOfType (negsuc 0) (pos 1)) ∷ [])
-      ∷ [])
-      tail.Text
+    (part link.First (Some (codes "li")) []
+    ∷ part link.Next (Some (codes "li")) (is_not (test.Nth nth.LastOfType (negsuc 0) (pos 1)) ∷ [])
+    ∷ [])
+    tail.Text
 
 -- [class^=good] ~ p:empty
 abbrev pub later_paragraph : Selector
 later_paragraph =
     selector
-      (part link.First None (is (test.Attr (codes "class") op.Prefix (codes "good")) ∷ [])
-      ∷ part link.Later (Some (codes "p")) (is (test.Pseudo pseudo.Empty) ∷ [])
-      ∷ [])
-      tail.Element
+    (part link.First None (is (test.Attr (codes "class") op.Prefix (codes "good")) ∷ [])
+    ∷ part link.Later (Some (codes "p")) (is (test.Pseudo pseudo.Empty) ∷ [])
+    ∷ [])
+    tail.Element
 
 -- ul:not(#a) :lang(EN)::attr(lang)
 abbrev pub english : Selector
 english =
     selector
-      (part link.First (Some (codes "ul")) (is_not (test.Id (codes "a")) ∷ [])
-      ∷ part link.Descendant None (is (test.Lang (codes "EN")) ∷ [])
-      ∷ [])
-      (tail.Attr (codes "lang"))
+    (part link.First (Some (codes "ul")) (is_not (test.Id (codes "a")) ∷ [])
+    ∷ part link.Descendant None (is (test.Lang (codes "EN")) ∷ [])
+    ∷ [])
+    (tail.Attr (codes "lang"))
+
+-- *:first-of-type
+abbrev pub first_of_any_type : Selector
+first_of_any_type = selector (part link.First None (is (test.Nth nth.OfType (pos 0) (pos 1)) ∷ []) ∷ []) tail.Element
 
 abbrev pub triple : ℕ → ℕ → ℕ → Triple
 triple a b c = record { a = a; b = b; c = c }
@@ -112,3 +117,5 @@ pub record WorkedAnswers : Type 0 where
   pub odd_counts : triple_of odd_items ≡ triple 0 2 2
   pub middle_counts : triple_of middle_text ≡ triple 0 1 3
   pub english_counts : triple_of english ≡ triple 1 1 2
+  pub well_made : WellMade (record { items = odd_items ∷ middle_text ∷ [] })
+  pub needs_a_type : WellMade (alone first_of_any_type) → ⊥

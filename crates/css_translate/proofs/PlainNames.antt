@@ -1,5 +1,5 @@
 -- Plain names: they are ASCII, and stay plain in lower case.
-use Rattle.std.proofs.Common.{◌≡◌, refl, ℕ, ◌<◌, Bool, true, false, ◌&&◌, ◌||◌, List, [], ◌∷◌, ap, sym, ◌∙◌, map, arith, ◌==◌, encode_utf8_all, All}
+use Rattle.std.proofs.Common.{◌≡◌, refl, ℕ, ◌<◌, true, List, [], ◌∷◌, ap, ◌∙◌, map, arith}
 use Rattle.std.specs.List.{list_all}
 use Rattle.std.specs.Str.{chars, IsAscii}
 use Rattle.std.specs.Char.{to_ascii_lowercase}

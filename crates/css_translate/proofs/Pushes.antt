@@ -1,5 +1,5 @@
 -- Texts that grow at their end.
-use Rattle.std.proofs.Common.{◌≡◌, refl, sym, ◌∙◌, ap, ℕ, ◌+◌, ◌<◌, List, [], ◌∷◌, ◌++◌, append_assoc, append-nil, Ok, Err, Result, OnOk, length, take, get_or}
+use Rattle.std.proofs.Common.{◌≡◌, ◌∙◌, ap, ℕ, List, ◌++◌, append_assoc, Ok, Err, Result, OnOk}
 
 -- two pieces, the second pushed last
 pub two : {V E : Type 0} (r : Result V E) (was x mid y now : List ℕ) → mid ≡ was ++ x → OnOk r (now ≡ mid ++ y) → OnOk r (now ≡ was ++ (x ++ y))

@@ -1,12 +1,11 @@
 -- The printed text of a plain selector reads as its expression.
-use Rattle.std.proofs.Common.{◌≡◌, refl, sym, ◌∙◌, ap, subst, ℕ, ◌≤◌, Bool, true, false, ◌&&◌, List, [], ◌∷◌, ◌++◌, map, length, append-nil}
+use Rattle.std.proofs.Common.{◌≡◌, refl, sym, ◌∙◌, ap, subst, ◌≤◌, true, false, ◌&&◌, List, [], ◌∷◌, ◌++◌, map, length, append-nil}
 use Rattle.std.specs.List.{list_all, list_any, AllByRecursion}
 use Rattle.css_meaning.specs.declared.selector.Dialect.{Dialect}
 use Rattle.css_meaning.specs.declared.selector.Link.TheVariants as link
 use Rattle.css_meaning.specs.declared.selector.Part.{Part}
 use Rattle.css_meaning.specs.declared.selector.Selector.{Selector}
 use Rattle.css_meaning.specs.declared.selector.Tail.{Tail}
-use Rattle.css_meaning.specs.declared.selector.Tail.TheVariants as tail
 use Rattle.xpath_lexer.specs.Tokens.{Text}
 use Rattle.xpath_values.specs.declared.value.Shape.TheVariants as shape
 use Rattle.xpath_parser.specs.declared.expression.Expr.{Expr}
@@ -16,10 +15,10 @@ use Rattle.xpath_parser.specs.declared.expression.Step.{Step}
 use Rattle.xpath_parser.specs.declared.term.Term.{Term}
 use Rattle.xpath_parser.specs.Grammar.{ReadsWhole}
 use Rattle.xpath_parser.specs.Reading.{ReadsAs, most_bytes}
-use Rattle.xpath_parser.specs.Shapes.{Typing, typing, shape_of, is_well_typed}
+use Rattle.xpath_parser.specs.Shapes.{Typing, shape_of, is_well_typed}
 use Rattle.xpath_parser.specs.Terms.{is_refused, most_open}
 use Rattle.css_translate.specs.Plain.{IsPlain, IsPlainNext, IsPlainParts, HasPlainName}
-use Rattle.css_translate.specs.Predicates.{step, node_test}
+use Rattle.css_translate.specs.Predicates.{node_test}
 use Rattle.css_translate.specs.Printed.{parts_text, selector_text, tail_text}
 use Rattle.css_translate.specs.Expression.{axis_of, part_step, selector_steps, selector_expression, tail_steps}
 use Rattle.css_translate.proofs.Pieces.{step_terms, inner_terms, selector_says}

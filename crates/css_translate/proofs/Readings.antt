@@ -1,5 +1,5 @@
 -- The terms of the printed pieces as expressions.
-use Rattle.std.proofs.Common.{◌≡◌, refl, sym, ◌∙◌, ap, subst, ℕ, suc, Bool, true, false, List, [], ◌∷◌, ◌++◌, map, Option, Some, None, append-nil, cond}
+use Rattle.std.proofs.Common.{◌≡◌, refl, sym, ◌∙◌, ap, subst, ℕ, suc, Bool, true, List, [], ◌∷◌, ◌++◌, map, Option, Some, None, append-nil, cond}
 use Rattle.std.specs.List.{flat_map, AllByRecursion}
 use Rattle.doc_model.specs.declared.Axis.{Axis}
 use Rattle.doc_model.specs.declared.Axis.TheVariants as axis
@@ -18,7 +18,6 @@ use Rattle.xpath_parser.specs.declared.term.Term.{Term}
 use Rattle.xpath_parser.specs.declared.term.Term.TheVariants as t
 use Rattle.xpath_parser.specs.Grammar as g
 use Rattle.xpath_parser.specs.Grammar.{Reads}
-use Rattle.css_translate.specs.Names.{is_plain}
 use Rattle.css_translate.specs.Plain.{is_plain_element, is_inner_link, IsPlainNext, IsPlainParts, HasPlainName}
 use Rattle.css_translate.specs.Predicates.{step, node_test, named, name_brackets, simple_predicates}
 use Rattle.css_translate.specs.Expression.{axis_of, part_step}

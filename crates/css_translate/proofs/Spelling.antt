@@ -1,11 +1,10 @@
 -- Printed pieces from the right: what stands behind a piece is spelled already.
-use Rattle.std.proofs.Common.{◌≡◌, refl, sym, ◌∙◌, ap, ℕ, suc, Bool, true, false, ◌||◌, ◌&&◌, cond, List, [], ◌∷◌, ◌++◌, Option, Some, None, arith, codes, ◌==◌}
+use Rattle.std.proofs.Common.{◌≡◌, refl, ◌∙◌, ap, ℕ, Bool, true, false, List, [], ◌∷◌, ◌++◌, Some, ◌==◌}
 use Rattle.std.specs.List.{list_all, list_any}
 use Rattle.std.specs.Str.{chars}
-use Rattle.std.proofs.lemmas.Bool.{and_parts, or_from}
-use Rattle.xpath_lexer.specs.declared.token.XKind.{XKind}
+use Rattle.std.proofs.lemmas.Bool.{and_parts}
 use Rattle.xpath_lexer.specs.declared.token.XKind.TheVariants as k
-use Rattle.xpath_lexer.specs.Tokens.{Text, Lexeme, lexeme, Begun, is_name_start, is_name_byte, span, with_star, ends_with, token, Spells, ends, next}
+use Rattle.xpath_lexer.specs.Tokens.{Text, Lexeme, lexeme, is_name_start, is_name_byte, span, with_star, ends_with, token, Spells, ends, next}
 use Rattle.xpath_parser.specs.declared.term.Term.{Term}
 use Rattle.xpath_parser.specs.declared.term.Term.TheVariants as t
 use Rattle.xpath_parser.specs.Terms.{terms_after, next_kind, name_term, is_refused, is_operand}

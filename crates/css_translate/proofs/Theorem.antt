@@ -1,17 +1,16 @@
 -- A printed text keeps the meaning of its selector list.
-use Rattle.std.proofs.Common.{◌≡◌, sym, ◌∙◌, ap, subst, ℕ, ◌≤◌, List, [], ◌∷◌, length}
+use Rattle.std.proofs.Common.{◌≡◌, sym, ◌∙◌, ap, subst, ◌≤◌, List, length}
 use Rattle.css_meaning.specs.declared.selector.Dialect.{Dialect}
 use Rattle.css_meaning.specs.declared.selector.Selector.{Selector}
 use Rattle.css_meaning.specs.declared.selector.SelectorList.{SelectorList}
 use Rattle.xpath_lexer.specs.Tokens.{Text}
 use Rattle.xpath_values.specs.declared.value.Shape.TheVariants as shape
 use Rattle.xpath_values.specs.declared.value.Value.TheVariants.{Nodes}
-use Rattle.xpath_parser.specs.declared.expression.Expr.{Expr}
 use Rattle.xpath_parser.specs.Reading.{ReadsAs, most_bytes}
 use Rattle.xpath_parser.specs.Shapes.{shape_of}
 use Rattle.xpath_parser.proofs.Complete.{one_expression}
 use Rattle.css_translate.specs.Expression.{expression}
-use Rattle.css_translate.specs.Plain.{IsPlain, IsOnePlain}
+use Rattle.css_translate.specs.Plain.{IsOnePlain}
 use Rattle.css_translate.specs.Printed.{printed, selector_text}
 use Rattle.css_translate.specs.Promise.{KeepsMeaning, alone}
 use Rattle.css_translate.proofs.MeansPlain.{denote_plain, root_matched}

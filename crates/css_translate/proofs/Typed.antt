@@ -1,6 +1,5 @@
 -- The types of paths.
-use Rattle.std.proofs.Common.{◌≡◌, refl, Bool, true, false, ◌&&◌, List, [], ◌∷◌, ap, sym, ◌∙◌, map}
-use Rattle.std.specs.Prelude.{ℕ}
+use Rattle.std.proofs.Common.{◌≡◌, Bool, true, ◌&&◌, List, ap, sym, ◌∙◌, map}
 use Rattle.std.specs.List.{list_all}
 use Rattle.doc_model.specs.declared.Axis.{Axis}
 use Rattle.doc_model.specs.declared.NodeTest.{NodeTest}
@@ -13,8 +12,8 @@ use Rattle.xpath_parser.specs.declared.expression.Infix.{Infix}
 use Rattle.xpath_parser.specs.declared.expression.Start.{Start}
 use Rattle.xpath_parser.specs.declared.expression.Expr.TheViews.{rolls-Here}
 use Rattle.xpath_parser.specs.declared.expression.Start.TheVariants as start
-use Rattle.xpath_parser.specs.declared.expression.Step.{Step, roll-Step}
-use Rattle.xpath_parser.specs.Shapes.{Typing, typing, shape_of, is_well_typed, expr_typing, start_typing, operand_typing, step_typing}
+use Rattle.xpath_parser.specs.declared.expression.Step.{Step}
+use Rattle.xpath_parser.specs.Shapes.{Typing, typing, expr_typing, start_typing, operand_typing, step_typing}
 use Rattle.css_translate.specs.Predicates.{step}
 
 abbrev Arm : Type 0

@@ -1,5 +1,5 @@
 -- The texts of some selectors.
-use Rattle.std.specs.Prelude.{◌≡◌, ℕ, List, [], ◌∷◌, ◌++◌, Option, Some, None, codes, ℤ, pos, negsuc}
+use Rattle.std.specs.Prelude.{◌≡◌, ℕ, List, [], ◌∷◌, ◌++◌, Option, Some, None, codes, pos, negsuc}
 use Rattle.css_meaning.specs.declared.selector.Dialect.{Dialect}
 use Rattle.css_meaning.specs.declared.selector.Dialect.TheVariants.{Generic, Html}
 use Rattle.css_meaning.specs.declared.selector.Link.TheVariants as link
@@ -35,10 +35,10 @@ pub record WorkedTexts : Type 0 where
   pub star : shows Generic (any [] ∷ []) (codes "descendant-or-self::*")
   -- div.content
   pub word : shows Html (named (codes "div") (is (test.Class (codes "content")) ∷ []) ∷ [])
-    (codes "descendant-or-self::div[@class and contains(concat(' ', normalize-space(@class), ' '), ' content ')]")
+      (codes "descendant-or-self::div[@class and contains(concat(' ', normalize-space(@class), ' '), ' content ')]")
   -- a[title="it's \22 x\22"]
   pub both_quotes : shows Html (named (codes "a") (is (test.Attr (codes "title") op.Equals (codes "it's " ++ (double ++ (codes "x" ++ double)))) ∷ []) ∷ [])
-    (codes "descendant-or-self::a[@title = concat('it', " ++ (double ++ (codes "'" ++ (double ++ (codes ", 's " ++ (double ++ (codes "x" ++ (double ++ codes "')]"))))))))
+      (codes "descendant-or-self::a[@title = concat('it', " ++ (double ++ (codes "'" ++ (double ++ (codes ", 's " ++ (double ++ (codes "x" ++ (double ++ codes "')]"))))))))
   -- tr:nth-child(odd)
   pub odd : shows Html (named (codes "tr") (is (test.Nth nth.Child (pos 2) (pos 1)) ∷ []) ∷ []) (codes "descendant-or-self::tr[count(preceding-sibling::*) mod 2 = 0]")
   -- li:nth-child(-n+3)
@@ -51,9 +51,9 @@ pub record WorkedTexts : Type 0 where
   pub not_last : shows Html (named (codes "li") (is_not (test.Nth nth.LastOfType (pos 0) (pos 1)) ∷ []) ∷ []) (codes "descendant-or-self::li[not(self::*[count(following-sibling::li) = 0])]")
   -- h1 + p, ul > li
   pub siblings : shows Html
-    (selector (part link.First (Some (codes "h1")) [] ∷ part link.Next (Some (codes "p")) [] ∷ []) tail.Element
-    ∷ selector (part link.First (Some (codes "ul")) [] ∷ part link.Child (Some (codes "li")) [] ∷ []) tail.Element ∷ [])
-    (codes "descendant-or-self::h1/following-sibling::*[1][self::p] | descendant-or-self::ul/li")
+      (selector (part link.First (Some (codes "h1")) [] ∷ part link.Next (Some (codes "p")) [] ∷ []) tail.Element
+      ∷ selector (part link.First (Some (codes "ul")) [] ∷ part link.Child (Some (codes "li")) [] ∷ []) tail.Element ∷ [])
+      (codes "descendant-or-self::h1/following-sibling::*[1][self::p] | descendant-or-self::ul/li")
   -- a[href^=""], .a\ b, a:hover
   pub empty_prefix : shows Html (named (codes "a") (is (test.Attr (codes "href") op.Prefix []) ∷ []) ∷ []) (codes "descendant-or-self::a[0]")
   pub spaced_word : shows Html (any (is (test.Class (codes "a b")) ∷ []) ∷ []) (codes "descendant-or-self::*[0]")
@@ -63,17 +63,17 @@ pub record WorkedTexts : Type 0 where
   -- :lang(EN)
   pub lang_in_generic : shows Generic (any (is (test.Lang (codes "EN")) ∷ []) ∷ []) (codes "descendant-or-self::*[lang('EN')]")
   pub lang_in_html : shows Html (any (is (test.Lang (codes "EN")) ∷ []) ∷ [])
-    (codes "descendant-or-self::*[ancestor-or-self::*[@lang][1][starts-with(concat(translate(@lang, 'ABCDEFGHIJKLMNOPQRSTUVWXYZ', 'abcdefghijklmnopqrstuvwxyz'), '-'), 'en-')]]")
+      (codes "descendant-or-self::*[ancestor-or-self::*[@lang][1][starts-with(concat(translate(@lang, 'ABCDEFGHIJKLMNOPQRSTUVWXYZ', 'abcdefghijklmnopqrstuvwxyz'), '-'), 'en-')]]")
   -- ul a ~ b[x$="yz"]::attr(Href)
   pub last_characters : shows Generic
-    (selector
+      (selector
       (part link.First (Some (codes "ul")) []
       ∷ part link.Descendant (Some (codes "a")) []
       ∷ part link.Later (Some (codes "b")) (is (test.Attr (codes "x") op.Suffix (codes "yz")) ∷ [])
       ∷ [])
       (tail.Attr (codes "Href")) ∷ [])
-    (codes "descendant-or-self::ul/descendant::a/following-sibling::b[@x and substring(@x, string-length(@x) - 1) = 'yz']/@Href")
+      (codes "descendant-or-self::ul/descendant::a/following-sibling::b[@x and substring(@x, string-length(@x) - 1) = 'yz']/@Href")
   -- :not(p):only-child::text
   pub only_text : shows Html
-    (selector (part link.First None (is_not (test.Element (Some (codes "P"))) ∷ is (test.Pseudo pseudo.OnlyChild) ∷ []) ∷ []) tail.Text ∷ [])
-    (codes "descendant-or-self::*[not(self::p)][count(preceding-sibling::*) = 0][count(following-sibling::*) = 0]/text()")
+      (selector (part link.First None (is_not (test.Element (Some (codes "P"))) ∷ is (test.Pseudo pseudo.OnlyChild) ∷ []) ∷ []) tail.Text ∷ [])
+      (codes "descendant-or-self::*[not(self::p)][count(preceding-sibling::*) = 0][count(following-sibling::*) = 0]/text()")

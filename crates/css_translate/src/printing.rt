@@ -13,12 +13,7 @@ use text_base::{NoMemory, SelectorFault};
 const MOST_BYTES: usize = 1_048_576;
 
 #[tactic(auto, using(crate::proofs::Pieces::bare_part))]
-fn push_part(
-    alloc: Global,
-    out: &mut String,
-    dialect: Dialect,
-    part: &Part,
-) -> Result<(), NoMemory>
+fn push_part(alloc: Global, out: &mut String, dialect: Dialect, part: &Part) -> Result<(), NoMemory>
     requires name { is_plain_element part.now.element ≡ true }
     requires simples { part.now.simples ≡ [] }
     ensures { OnOk result (string_bytes out.new ≡ string_bytes out.old ++ part_text dialect part.now) }

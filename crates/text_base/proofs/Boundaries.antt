@@ -5,18 +5,8 @@ use Rattle.std.proofs.lemmas.Bool.{cases_lt}
 use Rattle.std.proofs.lemmas.List.{get_or_past}
 use Rattle.std.proofs.lemmas.Bool.Decides.{nat_tests}
 use Rattle.std.proofs.lemmas.Str.{IsCharBoundary-before_ascii, IsCharBoundary-after_ascii, IsCharBoundary-end, IsCharBoundary-start}
-use Rattle.text_base.specs.declared.finding.Class.{Class}
-use Rattle.text_base.specs.declared.finding.Class.TheVariants.{Name, Space5, Gap, Attr, Bare}
-use Rattle.text_base.specs.Class.{test_of}
-use Rattle.text_base.specs.Text.{run_end, is_not_byte, IsPlace}
+use Rattle.text_base.specs.Text.{run_end, is_not_byte, IsWide, IsNarrow, IsPlace}
 use Rattle.text_base.proofs.Runs.{run_end_le, run_end_passes, run_end_stops}
-
--- all bytes past ASCII pass, or none does
-abbrev pub IsWide : (ℕ → Bool) → Type 0
-IsWide p = (b : ℕ) → 128 ≤ b → p b ≡ true
-
-abbrev pub IsNarrow : (ℕ → Bool) → Type 0
-IsNarrow p = (b : ℕ) → 128 ≤ b → p b ≡ false
 
 true_false : (b : Bool) → b ≡ true → b ≡ false → ⊥
 true_false b h k = cc
@@ -46,22 +36,15 @@ module _ (p : ℕ → Bool) (text : List ℕ) (utf8 : IsUtf8 text) (i : ℕ) (l 
         | inr none ↦ subst (IsCharBoundary text) (let e : i ≡ run_end p text i = omega arith in e) at
       ]
 
-pub wide_or_narrow : (class : Class) → IsWide (test_of class) ⊎ IsNarrow (test_of class)
-wide_or_narrow Name = inl (λ b l. grind (arith, nat_tests))
-wide_or_narrow Space5 = inr (λ b l. grind (arith, nat_tests))
-wide_or_narrow Gap = inr (λ b l. grind (arith, nat_tests))
-wide_or_narrow Attr = inl (λ b l. grind (arith, nat_tests))
-wide_or_narrow Bare = inl (λ b l. grind (arith, nat_tests))
-
 pub place : (text : List ℕ) (i : ℕ) → IsCharBoundary text i → IsPlace text i
 place text i h = record { within = h.0; starts = h.1 }
 
 pub boundary : (text : List ℕ) (i : ℕ) → IsPlace text i → IsCharBoundary text i
 boundary text i h = (h.within, h.starts)
 
-pub run_end_place : (class : Class) (text : List ℕ) (i j : ℕ) → IsUtf8 text → i ≤ length text → j ≡ run_end (test_of class) text i → IsPlace text i → IsPlace text j
-run_end_place class text i j utf8 l e at =
-    subst (IsPlace text) (sym e) (elim (wide_or_narrow class) [ inl wide ↦ place text _ (wide_boundary (test_of class) text utf8 i l wide) | inr narrow ↦ place text _ (narrow_boundary (test_of class) text utf8 i l narrow (boundary text i at)) ])
+pub run_end_place : (p : ℕ → Bool) (text : List ℕ) (i j : ℕ) → IsWide p ⊎ IsNarrow p → IsUtf8 text → i ≤ length text → j ≡ run_end p text i → IsPlace text i → IsPlace text j
+run_end_place p text i j cuts utf8 l e at =
+    subst (IsPlace text) (sym e) (elim cuts [ inl wide ↦ place text _ (wide_boundary p text utf8 i l wide) | inr narrow ↦ place text _ (narrow_boundary p text utf8 i l narrow (boundary text i at)) ])
 
 pub find_byte_place : (byte : ℕ) (text : List ℕ) (i j : ℕ) → IsUtf8 text → byte < 128 → i ≤ length text → j ≡ run_end (is_not_byte byte) text i → IsPlace text j
 find_byte_place byte text i j utf8 ascii l e =

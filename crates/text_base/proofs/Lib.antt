@@ -1,6 +1,10 @@
 pub mod Boundaries
+pub mod CharacterLemmas
 pub mod NewlineLemmas
+pub mod NewlinePlaces
 pub mod Places
 pub mod Runs
 pub mod Text
 pub mod Walks
+pub mod Wanted
+pub mod WordLemmas

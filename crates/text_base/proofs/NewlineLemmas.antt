@@ -15,6 +15,7 @@ use Rattle.text_base.proofs.Boundaries.{place}
 use Rattle.text_base.proofs.Runs.{not_found, found_at}
 use Rattle.memchr.specs.Find.{IsFirstByte, is_byte}
 use Rattle.text_base.specs.declared.reasons.PageReason.TheVariants.{NotUtf8, Nul}
+use Rattle.text_base.specs.Newlines.{newlines_after}
 use Rattle.text_base.specs.Decoding.{newlines, without_mark, decoded, fault}
 
 lt-ltb : (a b : ℕ) → a < b → ltb a b ≡ true
@@ -33,68 +34,68 @@ is_true false h = sym h
 
 module _ (text : List ℕ) where
   -- a byte that is no CR stays
-  kept : (i : ℕ) → i < length text → (get_or text i 0 == 13) ≡ false → newlines false (drop i text) ≡ get_or text i 0 ∷ newlines false (drop (i + 1) text)
+  kept : (i : ℕ) → i < length text → (get_or text i 0 == 13) ≡ false → newlines_after false (drop i text) ≡ get_or text i 0 ∷ newlines_after false (drop (i + 1) text)
   kept i l h =
-      ap (newlines false) (drop_more text i 0 l)
-      ∙ ap (λ b. cond b (10 ∷ newlines true (drop (i + 1) text)) (get_or text i 0 ∷ newlines false (drop (i + 1) text))) h
+      ap (newlines_after false) (drop_more text i 0 l)
+      ∙ ap (λ b. cond b (10 ∷ newlines_after true (drop (i + 1) text)) (get_or text i 0 ∷ newlines_after false (drop (i + 1) text))) h
 
-  kept_by : (n i : ℕ) → i + n ≤ length text → ((k : ℕ) → i ≤ k → k < i + n → (get_or text k 0 == 13) ≡ false) → newlines false (drop i text) ≡ take n (drop i text) ++ newlines false (drop (i + n) text)
-  kept_by zero i l h = ap (λ k. newlines false (drop k text)) (omega arith)
+  kept_by : (n i : ℕ) → i + n ≤ length text → ((k : ℕ) → i ≤ k → k < i + n → (get_or text k 0 == 13) ≡ false) → newlines_after false (drop i text) ≡ take n (drop i text) ++ newlines_after false (drop (i + n) text)
+  kept_by zero i l h = ap (λ k. newlines_after false (drop k text)) (omega arith)
   kept_by (suc n) i l h =
       let first = kept i (omega arith) (h i (omega arith) (omega arith)) in
       let later = kept_by n (i + 1) (omega arith) (λ k low high. h k (omega arith) (omega arith)) in
       let cut : take (suc n) (drop i text) ≡ get_or text i 0 ∷ take n (drop (i + 1) text) = ap (take (suc n)) (drop_more text i 0 (omega arith)) in
-      first ∙ ap (λ r. get_or text i 0 ∷ r) (later ∙ ap (λ k. take n (drop (i + 1) text) ++ newlines false (drop k text)) (omega arith)) ∙ ap (λ x. x ++ newlines false (drop (i + suc n) text)) (sym cut)
+      first ∙ ap (λ r. get_or text i 0 ∷ r) (later ∙ ap (λ k. take n (drop (i + 1) text) ++ newlines_after false (drop k text)) (omega arith)) ∙ ap (λ x. x ++ newlines_after false (drop (i + suc n) text)) (sym cut)
 
   -- up to the next CR all bytes stay
-  pub up_to_cr : (i j : ℕ) → i ≤ length text → j ≡ run_end (is_not_byte 13) text i → newlines false (drop i text) ≡ slice_range text i j ++ newlines false (drop j text)
+  pub up_to_cr : (i j : ℕ) → i ≤ length text → j ≡ run_end (is_not_byte 13) text i → newlines_after false (drop i text) ≡ slice_range text i j ++ newlines_after false (drop j text)
   up_to_cr i j low e =
       let from = run_end_from (is_not_byte 13) text i in
       kept_by (j - i) i (omega (arith, run_end_le (is_not_byte 13) text i low)) (λ k a b. is_false _ (run_end_passes (is_not_byte 13) text i k a (omega arith)))
-      ∙ ap (λ k. slice_range text i j ++ newlines false (drop k text)) (omega arith)
+      ∙ ap (λ k. slice_range text i j ++ newlines_after false (drop k text)) (omega arith)
 
-  pub none_left : (i j : ℕ) → length text ≤ j → newlines false (drop j text) ≡ []
-  none_left i j l = ap (newlines false) (drop_all j text l)
+  pub none_left : (i j : ℕ) → length text ≤ j → newlines_after false (drop j text) ≡ []
+  none_left i j l = ap (newlines_after false) (drop_all j text l)
 
-  cr_at : (i j : ℕ) → j ≡ run_end (is_not_byte 13) text i → j < length text → newlines false (drop j text) ≡ 10 ∷ newlines true (drop (j + 1) text)
+  cr_at : (i j : ℕ) → j ≡ run_end (is_not_byte 13) text i → j < length text → newlines_after false (drop j text) ≡ 10 ∷ newlines_after true (drop (j + 1) text)
   cr_at i j e l =
       let cr = is_true (get_or text j 0 == 13) (subst (λ n. is_not_byte 13 (get_or text n 0) ≡ false) (sym e) (run_end_stops (is_not_byte 13) text i (omega arith))) in
-      ap (newlines false) (drop_more text j 0 l)
-      ∙ ap (λ b. cond b (10 ∷ newlines true (drop (j + 1) text)) (get_or text j 0 ∷ newlines false (drop (j + 1) text))) cr
+      ap (newlines_after false) (drop_more text j 0 l)
+      ∙ ap (λ b. cond b (10 ∷ newlines_after true (drop (j + 1) text)) (get_or text j 0 ∷ newlines_after false (drop (j + 1) text))) cr
 
   -- after a CR
-  after_lf : (j : ℕ) → get_or text (j + 1) 0 ≡ 10 → newlines true (drop (j + 1) text) ≡ newlines false (drop (j + 2) text)
+  after_lf : (j : ℕ) → get_or text (j + 1) 0 ≡ 10 → newlines_after true (drop (j + 1) text) ≡ newlines_after false (drop (j + 2) text)
   after_lf j lf =
-      ap (newlines true) (drop_more text (j + 1) 0 (in_text text (j + 1) (omega arith)))
-      ∙ ap (λ b. newlines true (b ∷ drop (j + 1 + 1) text)) lf
-      ∙ ap (λ n. newlines false (drop n text)) (omega arith)
+      ap (newlines_after true) (drop_more text (j + 1) 0 (in_text text (j + 1) (omega arith)))
+      ∙ ap (λ b. newlines_after true (b ∷ drop (j + 1 + 1) text)) lf
+      ∙ ap (λ n. newlines_after false (drop n text)) (omega arith)
 
-  after_other : (j : ℕ) → (get_or text (j + 1) 0 ≡ 10 → ⊥) → newlines true (drop (j + 1) text) ≡ newlines false (drop (j + 1) text)
+  after_other : (j : ℕ) → (get_or text (j + 1) 0 ≡ 10 → ⊥) → newlines_after true (drop (j + 1) text) ≡ newlines_after false (drop (j + 1) text)
   after_other j other =
       elim (cases_lt (j + 1) (length text)) [
         | inl l ↦
             let e = drop_more text (j + 1) 0 l in
             let b = get_or text (j + 1) 0 in
             let rest = drop (j + 1 + 1) text in
-            ap (newlines true) e
-            ∙ ap (λ t. cond (b == 13) (10 ∷ newlines true rest) (cond t (newlines false rest) (b ∷ newlines false rest))) (ne_eqb b 10 other)
-            ∙ sym (ap (newlines false) e)
-        | inr past ↦ let none = drop_all (j + 1) text past in ap (newlines true) none ∙ sym (ap (newlines false) none)
+            ap (newlines_after true) e
+            ∙ ap (λ t. cond (b == 13) (10 ∷ newlines_after true rest) (cond t (newlines_after false rest) (b ∷ newlines_after false rest))) (ne_eqb b 10 other)
+            ∙ sym (ap (newlines_after false) e)
+        | inr past ↦ let none = drop_all (j + 1) text past in ap (newlines_after true) none ∙ sym (ap (newlines_after false) none)
       ]
 
   -- a line is written, without its newline and with it
-  pub last_line : (i j : ℕ) (old new : List ℕ) → i ≤ length text → j ≡ run_end (is_not_byte 13) text i → new ≡ old ++ slice_range text i j → new ++ newlines false (drop j text) ≡ old ++ newlines false (drop i text)
+  pub last_line : (i j : ℕ) (old new : List ℕ) → i ≤ length text → j ≡ run_end (is_not_byte 13) text i → new ≡ old ++ slice_range text i j → new ++ newlines_after false (drop j text) ≡ old ++ newlines_after false (drop i text)
   last_line i j old new low e was =
-      ap (λ x. x ++ newlines false (drop j text)) was ∙ append_assoc old (slice_range text i j) (newlines false (drop j text)) ∙ ap (λ x. old ++ x) (sym (up_to_cr i j low e))
+      ap (λ x. x ++ newlines_after false (drop j text)) was ∙ append_assoc old (slice_range text i j) (newlines_after false (drop j text)) ∙ ap (λ x. old ++ x) (sym (up_to_cr i j low e))
 
-  one_line : (i j : ℕ) (old mid new rest : List ℕ) → i ≤ length text → j ≡ run_end (is_not_byte 13) text i → mid ≡ old ++ slice_range text i j → new ≡ mid ++ 10 ∷ [] → newlines false (drop j text) ≡ 10 ∷ rest → new ++ rest ≡ old ++ newlines false (drop i text)
+  one_line : (i j : ℕ) (old mid new rest : List ℕ) → i ≤ length text → j ≡ run_end (is_not_byte 13) text i → mid ≡ old ++ slice_range text i j → new ≡ mid ++ 10 ∷ [] → newlines_after false (drop j text) ≡ 10 ∷ rest → new ++ rest ≡ old ++ newlines_after false (drop i text)
   one_line i j old mid new rest low e was pushed is =
       ap (λ x. x ++ rest) pushed ∙ append_assoc mid (10 ∷ []) rest ∙ ap (λ x. mid ++ x) (sym is) ∙ last_line i j old mid low e was
 
-  pub line_with_lf : (i j : ℕ) (old mid new : List ℕ) → i ≤ length text → j ≡ run_end (is_not_byte 13) text i → j < length text → mid ≡ old ++ slice_range text i j → new ≡ mid ++ 10 ∷ [] → get_or text (j + 1) 0 ≡ 10 → new ++ newlines false (drop (j + 2) text) ≡ old ++ newlines false (drop i text)
+  pub line_with_lf : (i j : ℕ) (old mid new : List ℕ) → i ≤ length text → j ≡ run_end (is_not_byte 13) text i → j < length text → mid ≡ old ++ slice_range text i j → new ≡ mid ++ 10 ∷ [] → get_or text (j + 1) 0 ≡ 10 → new ++ newlines_after false (drop (j + 2) text) ≡ old ++ newlines_after false (drop i text)
   line_with_lf i j old mid new low e l was pushed lf = one_line i j old mid new _ low e was pushed (cr_at i j e l ∙ ap (λ r. 10 ∷ r) (after_lf j lf))
 
-  pub line_with_cr : (i j : ℕ) (old mid new : List ℕ) → i ≤ length text → j ≡ run_end (is_not_byte 13) text i → j < length text → mid ≡ old ++ slice_range text i j → new ≡ mid ++ 10 ∷ [] → (get_or text (j + 1) 0 ≡ 10 → ⊥) → new ++ newlines false (drop (j + 1) text) ≡ old ++ newlines false (drop i text)
+  pub line_with_cr : (i j : ℕ) (old mid new : List ℕ) → i ≤ length text → j ≡ run_end (is_not_byte 13) text i → j < length text → mid ≡ old ++ slice_range text i j → new ≡ mid ++ 10 ∷ [] → (get_or text (j + 1) 0 ≡ 10 → ⊥) → new ++ newlines_after false (drop (j + 1) text) ≡ old ++ newlines_after false (drop i text)
   line_with_cr i j old mid new low e l was pushed other = one_line i j old mid new _ low e was pushed (cr_at i j e l ∙ ap (λ r. 10 ∷ r) (after_other j other))
 
   -- the place after a CR
@@ -120,7 +121,7 @@ decoded_nul bytes zero_at bad_at e f l = rw (sym e, sym f, lt-ltb zero_at bad_at
 pub decoded_bad : (bytes : List ℕ) (zero_at bad_at : ℕ) → zero_at ≡ run_end (is_not_byte 0) bytes 0 → bad_at ≡ utf8_valid_len bytes → bad_at ≤ zero_at → bad_at < length bytes → decoded bytes ≡ Err (fault NotUtf8 bad_at)
 decoded_bad bytes zero_at bad_at e f h l = rw (sym e, sym f, le-ltb_false zero_at bad_at h, lt-ltb bad_at (length bytes) l) refl
 
-pub decoded_text : (bytes : List ℕ) (zero_at bad_at : ℕ) → zero_at ≡ run_end (is_not_byte 0) bytes 0 → bad_at ≡ utf8_valid_len bytes → bad_at ≤ zero_at → length bytes ≤ bad_at → decoded bytes ≡ Ok (newlines false (without_mark bytes))
+pub decoded_text : (bytes : List ℕ) (zero_at bad_at : ℕ) → zero_at ≡ run_end (is_not_byte 0) bytes 0 → bad_at ≡ utf8_valid_len bytes → bad_at ≤ zero_at → length bytes ≤ bad_at → decoded bytes ≡ Ok (newlines (without_mark bytes))
 decoded_text bytes zero_at bad_at e f h l = rw (sym e, sym f, le-ltb_false zero_at bad_at h, le-ltb_false bad_at (length bytes) l) refl
 
 pub zero_none : (bytes : List ℕ) → IsFirstByte (is_byte 0) bytes None → length bytes ≡ run_end (is_not_byte 0) bytes 0

@@ -1,6 +1,9 @@
-pub mod Class
 pub mod Decoding
+pub mod Kinds
+pub mod Newlines
+pub mod Positions
 pub mod Reasons
 pub mod Strings
 pub mod Text
 pub mod Walk
+pub mod Words

@@ -1,6 +1,6 @@
 -- Words on the bytes of a text.
 use Rattle.std.specs.Str.{bytes_eq}
-use Rattle.std.specs.Prelude.{take, cond, ℕ, ◌+◌, ◌<◌, ◌≤◌, Bool, not, List, [], ◌∷◌, length, drop, slice_index, ◌==◌, ◌||◌, ◌&&◌, nat_le}
+use Rattle.std.specs.Prelude.{◌≡◌, true, false, take, cond, ℕ, ◌+◌, ◌<◌, ◌≤◌, Bool, not, List, [], ◌∷◌, length, drop, slice_index, ◌==◌, ◌||◌, ◌&&◌, nat_le}
 use Rattle.std.specs.List.{prefix_len}
 
 -- a space, a tab, a line feed, a carriage return or a form feed
@@ -14,21 +14,16 @@ is_space4 c = (c == 32) || (c == 9) || (c == 10) || (c == 13)
 abbrev pub is_letter : ℕ → Bool
 is_letter c = (nat_le 65 c && nat_le c 90) || (nat_le 97 c && nat_le c 122)
 
--- an ASCII letter, a digit, `-`, `_`, `:`, `.` or a byte past ASCII
-abbrev pub is_name_byte : ℕ → Bool
-is_name_byte c = is_letter c || (nat_le 48 c && nat_le c 58) || (c == 45) || (c == 46) || (c == 95) || nat_le 128 c
+-- all but Space4
+abbrev pub not_space4 : ℕ → Bool
+not_space4 c = not (is_space4 c)
 
--- a space or a slash
-abbrev pub is_gap : ℕ → Bool
-is_gap c = is_space5 c || (c == 47)
+-- all bytes past ASCII pass, or none does
+abbrev pub IsWide : (ℕ → Bool) → Type 0
+IsWide p = (b : ℕ) → 128 ≤ b → p b ≡ true
 
--- a byte of an attribute's name
-abbrev pub is_attr_byte : ℕ → Bool
-is_attr_byte c = not (is_gap c || (c == 62) || (c == 61) || (c == 34) || (c == 39) || (c == 60))
-
--- a byte of a value without quotes
-abbrev pub is_bare_byte : ℕ → Bool
-is_bare_byte c = not (is_space5 c || (c == 62))
+abbrev pub IsNarrow : (ℕ → Bool) → Type 0
+IsNarrow p = (b : ℕ) → 128 ≤ b → p b ≡ false
 
 -- the test that a byte is not a
 abbrev pub is_not_byte : ℕ → ℕ → Bool

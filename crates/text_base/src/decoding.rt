@@ -2,6 +2,7 @@ ghost use Rattle.std.specs.Prelude.{◌≡◌, ◌+◌, ◌<◌, ◌≤◌, ◌+
 ghost use Rattle.std.specs.String.{string_bytes};
 ghost use Rattle.std.specs.Str.Lossy.{utf8_valid_len};
 ghost use Rattle.text_base.specs.Text.{run_end, is_not_byte, IsPlace};
+ghost use Rattle.text_base.specs.Newlines.{newlines_after};
 ghost use Rattle.text_base.specs.Decoding.{newlines, without_mark, decoded, Gives};
 
 use crate::finding::{byte_at, find_byte, part};
@@ -24,7 +25,7 @@ fn valid_len(bytes: &[u8]) -> usize
 fn push_line(text: &str, from: usize, out: &mut String) -> Result<usize, AllocError>
     requires within { from < length text.now }
     requires place { IsPlace text.now from }
-    ensures kept { IfOk result (λ n. string_bytes out.new ++ newlines false (drop n text.now) ≡ string_bytes out.old ++ newlines false (drop from text.now)) }
+    ensures kept { IfOk result (λ n. string_bytes out.new ++ newlines_after false (drop n text.now) ≡ string_bytes out.old ++ newlines_after false (drop from text.now)) }
     ensures moves { IfOk result (λ n. from < n) }
     ensures place { IfOk result (λ n. IsPlace text.now n) }
 {
@@ -44,7 +45,7 @@ fn push_line(text: &str, from: usize, out: &mut String) -> Result<usize, AllocEr
 /// The text with each CR LF and each CR as one LF.
 #[tactic(auto, using(crate::proofs::Boundaries::at_start))]
 fn with_newlines(alloc: Global, text: &str) -> Result<String, AllocError>
-    ensures { IfOk result (λ s. string_bytes s ≡ newlines false text.now) }
+    ensures { IfOk result (λ s. string_bytes s ≡ newlines text.now) }
 {
     let mut out = String::new(alloc);
     let mut from = 0;

@@ -2,19 +2,26 @@
 //! refusals, places in a text, and the decoding of a page's bytes.
 #![tactic(auto)]
 
+mod characters;
 mod decoding;
 mod finding;
+mod kinds;
 mod letters;
 mod memory;
 mod reasons;
 mod txt;
+mod words;
 
+pub use characters::{char_len, char_sub};
 pub use decoding::decode_page;
-pub use finding::{
-    Class, byte_at, bytes_from, find_byte, find_text, is_letter, is_of, is_white, part, run_end,
-};
+pub use finding::{byte_at, bytes_from, find_byte, find_text, part};
+pub use kinds::{ByteKind, NotSpace4, Space4, Space5, is_letter, is_white, run_end};
 pub use letters::{is_space4, is_space5, lower_ascii};
 pub use memory::NoMemory;
 pub use reasons::{PageFault, PageReason, ScriptFault, SelectorFault, XPathFault};
 pub use sqlite_items::{Boxed, Items as Seq};
 pub use txt::Txt;
+pub use words::words_of;
+
+#[cfg(test)]
+mod tests;

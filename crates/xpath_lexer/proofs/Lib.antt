@@ -1,1 +1,5 @@
+pub mod Cuts
+pub mod Fronts
+pub mod Next
 pub mod Spelling
+mod Worked

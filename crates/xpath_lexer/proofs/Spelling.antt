@@ -1,5 +1,5 @@
 -- A text is spelled by at most one list of tokens.
-use Rattle.std.proofs.Common.{◌≡◌, refl, sym, ◌∙◌, ap, subst, ℕ, true, List, [], ◌∷◌, Some, None, arith, ◌⊎◌, inl, inr}
+use Rattle.std.proofs.Common.{◌≡◌, refl, sym, ◌∙◌, ap, subst, ℕ, true, false, List, [], ◌∷◌, Some, None, arith, ◌⊎◌, inl, inr}
 use Rattle.std.proofs.lemmas.Bool.Decides.{nat_tests}
 use Rattle.text_base.specs.Text.{is_space4}
 use Rattle.xpath_lexer.specs.Tokens.{Text, Lexeme, Begun, Spells, token, ends, space, next}
@@ -47,6 +47,12 @@ after_token w left h (space {b = b} {bs = bs} s r) = let no : token (b ∷ bs) �
 after_token w left h (next {left = more} {w = v} {ws = ws} t r) =
     let same = first_of_pair v w more left (sym t ∙ h) in
     record { tail = ws; is = ap (λ (u : Lexeme). u ∷ ws) same.0; spells = subst (λ (u : Text). Spells u ws) same.1 r }
+
+-- a text that begins with no token and no white space is not spelled
+pub none_begins : {text : Text} {ws : List Lexeme} (c : ℕ) (cs : Text) → text ≡ c ∷ cs → is_space4 c ≡ false → token (c ∷ cs) ≡ None → Spells text ws → ⊥
+none_begins c cs e h n ends = cc
+none_begins c cs e h n (space {b = b} s r) = let same : b ≡ c = cc in cc (ap is_space4 same)
+none_begins c cs e h n (next {bs = bs} t r) = let no : token bs ≡ None = ap token e ∙ n in cc
 
 pub one_spelling : {text : Text} {a : List Lexeme} (b : List Lexeme) → Spells text a → Spells text b → a ≡ b
 one_spelling b ends q = only_none refl q

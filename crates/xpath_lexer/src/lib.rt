@@ -2,7 +2,12 @@
 #![tactic(auto)]
 
 mod laws;
+mod sizes;
+#[cfg(test)]
+mod tests;
 mod token;
+mod tokens;
 
 pub use laws::one_spelling;
 pub use token::{XKind, XTok};
+pub use tokens::xpath_tokens;

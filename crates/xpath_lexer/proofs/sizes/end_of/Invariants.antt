@@ -1,13 +1,13 @@
 use Rattle.std.proofs.Common.{◌≡◌, ◌-◌, ◌≤◌, length}
-use Rattle.text_base.specs.Class.{test_of}
 use Rattle.text_base.specs.Text.{run_end}
-use Rattle.text_base.proofs.finding.run_end.Given as goal
+use Rattle.xpath_lexer.specs.Sizes.{has}
+use Rattle.xpath_lexer.proofs.sizes.end_of.Given as goal
 
 abbrev pub invariant-loop-at : goal.invariant-loop-at
 invariant-loop-at l = record {
   order : l.fn.from ≤ l.at;
   within : l.at ≤ length l.text;
-  same : run_end (test_of l.class) l.text l.at ≡ run_end (test_of l.class) l.text l.fn.from;
+  same : run_end (has l.run) l.text l.at ≡ run_end (has l.run) l.text l.fn.from;
 }
 
 abbrev pub decreases-loop-at : goal.decreases-loop-at
