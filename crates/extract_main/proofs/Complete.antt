@@ -5,7 +5,8 @@ use Rattle.io_edges.specs.Counts.{Rose, Grows}
 use Rattle.io_edges.specs.Pages.{page, Lacks}
 use Rattle.io_edges.specs.Sink.{grown, TakesPart}
 use Rattle.extract_main.specs.Answers.{Answer, bytes_of}
-use Rattle.extract_main.specs.Output.{Plan, alone, over, names_of, known, HasAll, Written, Stopped, Ended, Completes}
+use Rattle.extract_main.specs.Output.{Plan, alone, over, names_of, known, HasAll, Written, Stopped, Completes}
+use Rattle.extract_main.specs.Ending.{Ended}
 use Rattle.extract_main.specs.declared.top.Status.{Status}
 use Rattle.extract_main.specs.declared.top.Status.TheVariants.{Done, Refused, Usage, Memory, ReadFault, WriteFault}
 
