@@ -87,7 +87,7 @@ module _ (doc : Document) (d : Dialect) where
   -- ---- the nearest sibling
 
   -- the element itself has the name
-  self_named_is : (el : Option (List ℕ)) (x : ℕ) → is_element doc x ≡ true → Is doc (elements d axis.OwnSelf el) x (has_name doc d el x)
+  pub self_named_is : (el : Option (List ℕ)) (x : ℕ) → is_element doc x ≡ true → Is doc (elements d axis.OwnSelf el) x (has_name doc d el x)
   self_named_is el x is at size =
       is_nodes doc (elements d axis.OwnSelf el) x _ (at_elements doc d axis.OwnSelf el x) at size
       ∙ any_kept (λ y. eqb y x && (is_element doc y && has_name doc d el y)) (rows doc) ∙ self_any doc (λ y. is_element doc y && has_name doc d el y) x (element_row doc x is) ∙ ap (λ b. b && has_name doc d el x) is

@@ -1,5 +1,9 @@
 -- The values of expressions at a row, whatever its position.
-use Rattle.std.proofs.Common.{◌≡◌, refl, ℕ, Bool, true, false, ◌&&◌, ◌||◌, not, cond, List, [], ◌∷◌, ap, ◌∙◌, filter, ℤ}
+use Rattle.std.proofs.Common.{◌≡◌, refl, ℕ, suc, Bool, true, false, ◌&&◌, ◌||◌, not, cond, List, [], ◌∷◌, ap, ◌∙◌, filter, ℤ, arith}
+use Rattle.std.specs.Prelude.{pos}
+use Rattle.std.specs.Ordering.{int_eq}
+use Rattle.std.specs.Cmp.{signed_Decides}
+use Rattle.std.proofs.lemmas.Bool.{false_from_ne_true}
 use Rattle.std.specs.List.{list_any, list_all}
 use Rattle.doc_model.specs.declared.Axis.{Axis}
 use Rattle.doc_model.specs.declared.NodeTest.{NodeTest}
@@ -9,15 +13,17 @@ use Rattle.css_meaning.proofs.ListTests as lists
 use Rattle.xpath_values.specs.declared.value.Value.{Value}
 use Rattle.xpath_values.specs.declared.value.Value.TheVariants.{Nodes, Num, Str, Bool as Truth}
 use Rattle.xpath_values.specs.Numbers.{whole}
+use Rattle.xpath_parser.specs.declared.expression.Func.{Func}
 use Rattle.xpath_parser.specs.declared.expression.Func.TheVariants as f
 use Rattle.xpath_parser.specs.declared.expression.Infix.{Infix}
 use Rattle.xpath_parser.specs.declared.expression.Expr.{Expr}
 use Rattle.xpath_parser.specs.declared.expression.Expr.TheVariants as e
 use Rattle.xpath_parser.specs.declared.expression.Start.TheVariants.{Here}
 use Rattle.xpath_parser.specs.Conversions.{is_any, truth_of}
+use Rattle.xpath_parser.specs.Functions.{called}
 use Rattle.xpath_parser.specs.Denote.{path as walked, keeps, rows_in, denote, walk_of, applied}
 use Rattle.xpath_parser.proofs.Equations as eq
-use Rattle.css_translate.specs.Predicates.{step, path, joins}
+use Rattle.css_translate.specs.Predicates.{step, path, joins, number, both}
 use Rattle.css_translate.proofs.PathsKept.{Is, Keep, keep_none, step_has}
 
 pub any_kept : (p : ℕ → Bool) (xs : List ℕ) → is_any (filter p xs) ≡ list_any p xs
@@ -30,10 +36,10 @@ module _ (doc : Document) where
   Value_at e x v = (at size : ℕ) → denote doc e (record { row = x; position = at; size = size }) ≡ v
 
   pub is_truth : (e : Expr) (x : ℕ) (b : Bool) → Value_at e x (Truth b) → Is doc e x b
-  is_truth e x b h at size = ap (keeps at) (h at size)
+  is_truth e x b h at size = ap (keeps (suc at)) (h (suc at) size)
 
   pub is_nodes : (e : Expr) (x : ℕ) (xs : List ℕ) → Value_at e x (Nodes xs) → Is doc e x (is_any xs)
-  is_nodes e x xs h at size = ap (keeps at) (h at size)
+  is_nodes e x xs h at size = ap (keeps (suc at)) (h (suc at) size)
 
   pub at_literal : (s : List ℕ) (x : ℕ) → Value_at (e.Literal s) x (Str s)
   at_literal s x at size = eq.at_literal doc s (record { row = x; position = at; size = size })
@@ -49,6 +55,28 @@ module _ (doc : Document) where
 
   pub at_not : (a : Expr) (x : ℕ) (v : Value) → Value_at a x v → Value_at (e.Call f.Not (a ∷ [])) x (Truth (not (truth_of v)))
   at_not a x v h at size = eq.at_call doc f.Not (a ∷ []) (record { row = x; position = at; size = size }) ∙ ap (λ u. Truth (not (truth_of u))) (h at size)
+
+  -- functions of one, two and three arguments
+  pub at_call_one : (g : Func) (a : Expr) (x : ℕ) (v : Value) → Value_at a x v → (at size : ℕ)
+      → denote doc (e.Call g (a ∷ [])) (record { row = x; position = at; size = size }) ≡ called doc g (v ∷ []) (record { row = x; position = at; size = size })
+  at_call_one g a x v h at size =
+      eq.at_call doc g (a ∷ []) (record { row = x; position = at; size = size })
+      ∙ ap (λ u. called doc g (u ∷ []) (record { row = x; position = at; size = size })) (h at size)
+
+  pub at_call_two : (g : Func) (a b : Expr) (x : ℕ) (v w : Value) → Value_at a x v → Value_at b x w → (at size : ℕ)
+      → denote doc (e.Call g (a ∷ b ∷ [])) (record { row = x; position = at; size = size }) ≡ called doc g (v ∷ w ∷ []) (record { row = x; position = at; size = size })
+  at_call_two g a b x v w h k at size =
+      eq.at_call doc g (a ∷ b ∷ []) (record { row = x; position = at; size = size })
+      ∙ ap (λ u. called doc g (u ∷ denote doc b (record { row = x; position = at; size = size }) ∷ []) (record { row = x; position = at; size = size })) (h at size)
+      ∙ ap (λ u. called doc g (v ∷ u ∷ []) (record { row = x; position = at; size = size })) (k at size)
+
+  pub at_call_three : (g : Func) (a b c : Expr) (x : ℕ) (u v w : Value) → Value_at a x u → Value_at b x v → Value_at c x w → (at size : ℕ)
+      → denote doc (e.Call g (a ∷ b ∷ c ∷ [])) (record { row = x; position = at; size = size }) ≡ called doc g (u ∷ v ∷ w ∷ []) (record { row = x; position = at; size = size })
+  at_call_three g a b c x u v w h k l at size =
+      eq.at_call doc g (a ∷ b ∷ c ∷ []) (record { row = x; position = at; size = size })
+      ∙ ap (λ t. called doc g (t ∷ denote doc b (record { row = x; position = at; size = size }) ∷ denote doc c (record { row = x; position = at; size = size }) ∷ []) (record { row = x; position = at; size = size })) (h at size)
+      ∙ ap (λ t. called doc g (u ∷ t ∷ denote doc c (record { row = x; position = at; size = size }) ∷ []) (record { row = x; position = at; size = size })) (k at size)
+      ∙ ap (λ t. called doc g (u ∷ v ∷ t ∷ []) (record { row = x; position = at; size = size })) (l at size)
 
   -- `and` and `or` of any number of operands
   abbrev pub Truths_at : List Expr → ℕ → List Bool → Type 0
@@ -85,6 +113,16 @@ module _ (doc : Document) where
   pub at_and : (es : List Expr) (x : ℕ) (bs : List Bool) → Truths_at es x bs → Value_at (e.And es) x (Truth (all_of bs))
   at_and es x bs h at size = eq.at_and doc es (record { row = x; position = at; size = size }) ∙ ap Truth (all_true es x bs at size h)
 
+  pub at_both : (a b : Expr) (x : ℕ) (v w : Value) → Value_at a x v → Value_at b x w → Value_at (both a b) x (Truth (truth_of v && truth_of w))
+  at_both a b x v w h k at size =
+      at_and (a ∷ b ∷ []) x (truth_of v ∷ truth_of w ∷ []) ((λ i j. ap truth_of (h i j)), ((λ i j. ap truth_of (k i j)), tt)) at size
+      ∙ ap (λ t. Truth (truth_of v && t)) (lists.and_true (truth_of w))
+
+  pub at_either : (a b : Expr) (x : ℕ) (v w : Value) → Value_at a x v → Value_at b x w → Value_at (e.Or (a ∷ b ∷ [])) x (Truth (truth_of v || truth_of w))
+  at_either a b x v w h k at size =
+      at_or (a ∷ b ∷ []) x (truth_of v ∷ truth_of w ∷ []) ((λ i j. ap truth_of (h i j)), ((λ i j. ap truth_of (k i j)), tt)) at size
+      ∙ ap (λ t. Truth (truth_of v || t)) (lists.or_false (truth_of w))
+
   -- the path of one step gives the rows on its axis that pass its node test and its predicates
   pub at_step : (kind : ℕ → Bool) (a : Axis) (t : NodeTest) (es : List Expr) (p : ℕ → Bool) (x : ℕ) → ((z : ℕ) → on_axis doc a x z ≡ true → passes doc a t z ≡ true → kind z ≡ true) → Keep doc kind es p
       → Value_at (path a t es) x (Nodes (filter (λ y. p y && (on_axis doc a x y && passes doc a t y)) (rows doc)))
@@ -97,3 +135,10 @@ module _ (doc : Document) where
   -- and with no predicates
   pub at_bare_step : (a : Axis) (t : NodeTest) (x : ℕ) → Value_at (path a t []) x (Nodes (filter (λ y. on_axis doc a x y && passes doc a t y) (rows doc)))
   at_bare_step a t x = at_step (λ y. true) a t [] (λ y. true) x (λ z h i. refl) (keep_none doc (λ y. true))
+
+  not_zero : (at : ℕ) → int_eq (pos 0) (pos (suc at)) ≡ false
+  not_zero at = false_from_ne_true _ (λ t. let same : pos 0 ≡ pos (suc at) = (signed_Decides (pos 0) (pos (suc at))).0 t in let no : 0 ≡ suc at = cc in omega arith)
+
+  -- no position is 0
+  pub is_never : (x : ℕ) → Is doc (number 0) x false
+  is_never x at size = ap (keeps (suc at)) (at_number (pos 0) x (suc at) size) ∙ not_zero at

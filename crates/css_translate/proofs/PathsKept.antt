@@ -16,11 +16,12 @@ pub kept_append : (ms ns : List Meaning) (xs : List ℕ) → kept (ms ++ ns) xs 
 kept_append [] ns xs = refl
 kept_append (m ∷ ms) ns xs = kept_append ms ns (kept_from m (length xs) 1 xs)
 
+-- positions are counted from 1
 pub kept_from_filter : (m : Meaning) (p : ℕ → Bool) (size at : ℕ) (xs : List ℕ)
-    → ((x : ℕ) → has x xs ≡ true → (i : ℕ) → keeps i (m (record { row = x; position = i; size = size })) ≡ p x) → kept_from m size at xs ≡ filter p xs
+    → ((x : ℕ) → has x xs ≡ true → (i : ℕ) → keeps (suc i) (m (record { row = x; position = suc i; size = size })) ≡ p x) → kept_from m size (suc at) xs ≡ filter p xs
 kept_from_filter m p size at [] h = refl
 kept_from_filter m p size at (x ∷ xs) h =
-    ap (λ b. cond b (x ∷ kept_from m size (suc at) xs) (kept_from m size (suc at) xs)) (h x (lists.in_first x xs) at)
+    ap (λ b. cond b (x ∷ kept_from m size (suc (suc at)) xs) (kept_from m size (suc (suc at)) xs)) (h x (lists.in_first x xs) at)
     ∙ ap (λ r. cond (p x) (x ∷ r) r) (kept_from_filter m p size (suc at) xs (λ y i. h y (lists.in_rest x y xs i)))
 
 pub filter_all : (xs : List ℕ) → filter (λ y. true) xs ≡ xs
@@ -67,7 +68,7 @@ module _ (doc : Document) where
 
   -- at x the predicate is this answer, whatever the position
   abbrev pub Is : Expr → ℕ → Bool → Type 0
-  Is e x b = (at size : ℕ) → keeps at (denote doc e (record { row = x; position = at; size = size })) ≡ b
+  Is e x b = (at size : ℕ) → keeps (suc at) (denote doc e (record { row = x; position = suc at; size = size })) ≡ b
 
   module _ (kind : ℕ → Bool) where
     -- of any rows of the kind, the predicates keep those that pass the test
@@ -78,7 +79,7 @@ module _ (doc : Document) where
     keep_none xs of_kind = sym (filter_all xs)
 
     pub keep_one : (e : Expr) (p : ℕ → Bool) → ((x : ℕ) → kind x ≡ true → Is e x (p x)) → Keep (e ∷ []) p
-    keep_one e p is xs of_kind = kept_from_filter (denote doc e) p (length xs) 1 xs (λ x i at. is x (of_kind x i) at (length xs))
+    keep_one e p is xs of_kind = kept_from_filter (denote doc e) p (length xs) 0 xs (λ x i at. is x (of_kind x i) at (length xs))
 
     pub keep_same : (es : List Expr) (p q : ℕ → Bool) → ((x : ℕ) → kind x ≡ true → p x ≡ q x) → Keep es p → Keep es q
     keep_same es p q same k xs of_kind = k xs of_kind ∙ lists.filter_among p q xs (λ x i. same x (of_kind x i))

@@ -7,4 +7,5 @@ pub mod Plain
 pub mod Predicates
 pub mod Printed
 pub mod Promise
+pub mod Runs
 pub mod Simples

@@ -2,10 +2,14 @@
 #![tactic(auto)]
 
 mod laws;
+mod literals;
 mod names;
 mod printing;
 mod pushing;
 mod steps;
+#[cfg(test)]
+mod tests;
 
 pub use laws::worked_texts;
+pub use literals::literal;
 pub use printing::translate;

@@ -1,9 +1,12 @@
+pub mod Awaits
 mod AxisWalks
 pub mod Below
 pub mod Ending
 mod Filters
-mod Texts
-mod WalkSteps
 pub mod Grown
+mod Partition
 mod Pushed
 pub mod Runs
+mod Texts
+mod WalkSteps
+mod Worked

@@ -1,1 +1,3 @@
+mod Scanned
+mod Texts
 mod Worked

@@ -27,6 +27,7 @@ fn fitting(z: Option<i64>) -> XNum
     }
 }
 
+/// The sum; NaN where a side is NaN or the sum is out of the range.
 pub fn add(a: XNum, b: XNum) -> XNum
     ensures { result ≡ spec.num_add a b }
 {
@@ -36,6 +37,7 @@ pub fn add(a: XNum, b: XNum) -> XNum
     }
 }
 
+/// The difference; NaN where a side is NaN or the difference is out of the range.
 pub fn sub(a: XNum, b: XNum) -> XNum
     ensures { result ≡ spec.num_sub a b }
 {
@@ -45,6 +47,7 @@ pub fn sub(a: XNum, b: XNum) -> XNum
     }
 }
 
+/// The product; NaN where a side is NaN or the product is out of the range.
 pub fn mul(a: XNum, b: XNum) -> XNum
     ensures { result ≡ spec.num_mul a b }
 {
@@ -66,6 +69,7 @@ fn remainder(a: i64, b: i64) -> XNum
     }
 }
 
+/// The remainder, with the sign of the left side; NaN where a side is NaN or the right side is 0.
 pub fn rem(a: XNum, b: XNum) -> XNum
     ensures { result ≡ spec.num_rem a b }
 {
@@ -75,6 +79,7 @@ pub fn rem(a: XNum, b: XNum) -> XNum
     }
 }
 
+/// The number with the other sign.
 pub fn neg(a: XNum) -> XNum
     ensures { result ≡ spec.num_neg a }
 {
@@ -97,6 +102,7 @@ pub fn whole_fits(op: Compare, a: i64, b: i64) -> bool
     }
 }
 
+/// Whether a comparison holds between two numbers: NaN is unequal to every number, and no order holds with it.
 pub fn num_fits(op: Compare, a: XNum, b: XNum) -> bool
     ensures { result ≡ compares.num_fits op a b }
 {

@@ -1,0 +1,5 @@
+use Rattle.css_translate.proofs.LiteralRuns.{byte_test}
+use Rattle.css_translate.proofs.literals.has_byte.Goals as goal
+
+pub returns : goal.returns
+returns c = byte_test c.args.byte c.args.text.now c.find_byte.result c.find_byte.ensures.end
