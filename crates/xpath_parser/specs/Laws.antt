@@ -1,8 +1,10 @@
 -- What holds of every text and of every list of terms.
-use Rattle.std.specs.Prelude.{◌≡◌, ◌↔◌, ℕ, ◌<◌, List, [], length, Some}
+use Rattle.std.specs.Prelude.{◌≡◌, ◌↔◌, ◌⊎◌, ℕ, ◌<◌, List, [], length, Some}
 use Rattle.xpath_lexer.specs.Tokens.{Text}
 use Rattle.xpath_parser.specs.declared.expression.Expr.{Expr}
 use Rattle.xpath_parser.specs.declared.term.Term.{Term}
+use Rattle.text_base.specs.declared.reasons.XPathFault.{XPathFault}
+use Rattle.xpath_parser.specs.Faults.{IsXPathFault}
 use Rattle.xpath_parser.specs.Grammar.{ReadsWhole}
 use Rattle.xpath_parser.specs.Reader as reader
 use Rattle.xpath_parser.specs.Reading.{ReadsAs}
@@ -16,3 +18,19 @@ OneExpression = (text : Text) (x y : Expr) → ReadsAs text x → ReadsAs text y
 -- with more levels than terms, reading from the left finds an expression and nothing after it exactly where the rules read it
 abbrev pub FoundExactly : Type 0
 FoundExactly = (levels : ℕ) (ts : List Term) (x : Expr) → length ts < levels → (reader.expr levels ts ≡ Some (x, [])) ↔ ReadsWhole ts x
+
+-- a text is refused for one reason
+abbrev pub OneFault : Type 0
+OneFault = (text : Text) (f g : XPathFault) → IsXPathFault text f → IsXPathFault text g → f ≡ g
+
+pub record IsRead (text : Text) : Type 0 where
+  pub expression : Expr
+  pub reads : ReadsAs text expression
+
+pub record IsRefused (text : Text) : Type 0 where
+  pub fault : XPathFault
+  pub stands : IsXPathFault text fault
+
+-- and each text reads as an expression or is refused
+abbrev pub ReadOrRefused : Type 0
+ReadOrRefused = (text : Text) → IsRead text ⊎ IsRefused text

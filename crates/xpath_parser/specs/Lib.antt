@@ -1,5 +1,6 @@
 pub mod Conversions
 pub mod Denote
+pub mod Faults
 pub mod Functions
 pub mod Grammar
 pub mod Laws

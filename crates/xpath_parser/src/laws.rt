@@ -1,4 +1,4 @@
-ghost use Rattle.xpath_parser.specs.Laws.{FoundExactly, OneReading, OneExpression};
+ghost use Rattle.xpath_parser.specs.Laws.{FoundExactly, OneExpression, OneFault, OneReading, ReadOrRefused};
 
 /// The grammar of XPath 1.0 reads a list of terms as at most one expression: at an operand's place
 /// `-` is a sign, and each other operator outside brackets has one place in one level.
@@ -14,4 +14,14 @@ pub fn one_expression()
 /// Reading from the left finds exactly what the grammar reads.
 pub fn found_exactly()
     ensures { FoundExactly }
+{}
+
+/// A text is refused for at most one reason.
+pub fn one_fault()
+    ensures { OneFault }
+{}
+
+/// Each text reads as an expression or is refused.
+pub fn read_or_refused()
+    ensures { ReadOrRefused }
 {}

@@ -6,5 +6,5 @@ mod laws;
 mod term;
 
 pub use expression::{Expr, Func, Infix, Operand, Start, Step};
-pub use laws::{found_exactly, one_expression, one_reading};
+pub use laws::{found_exactly, one_expression, one_fault, one_reading, read_or_refused};
 pub use term::{NodeType, Term};

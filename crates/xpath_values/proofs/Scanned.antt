@@ -1,5 +1,5 @@
 -- Reading from left to right gives the number that the string stands for.
-use Rattle.std.proofs.Common.{◌≡◌, eqb, refl, sym, ◌∙◌, ap, subst, ℕ, zero, suc, ◌+◌, ◌-◌, ◌*◌, ◌<◌, ◌≤◌, Bool, true, false, ◌&&◌, cond, List, [], ◌∷◌, ◌++◌, length, drop, reverse, arith, ℤ, pos, neg_ℤ, ◌⊎◌, inl, inr, length-append}
+use Rattle.std.proofs.Common.{◌≡◌, eqb, refl, sym, ◌∙◌, ap, ℕ, zero, suc, ◌+◌, ◌-◌, ◌*◌, ◌<◌, ◌≤◌, Bool, true, false, ◌&&◌, cond, List, [], ◌∷◌, ◌++◌, length, drop, reverse, arith, neg_ℤ, inl, inr, length-append}
 use Rattle.std.specs.List.{list_all, fold, prefix_len}
 use Rattle.std.proofs.lemmas.Bool.Decides.{nat_tests}
 use Rattle.std.proofs.lemmas.Bool.{cases_lt}
@@ -9,10 +9,9 @@ use Rattle.std.proofs.lemmas.List.{reverse-append, drop-append-le, drop_all}
 use Rattle.std.proofs.lemmas.List.Folds.{prefix_len-append}
 use Rattle.std.proofs.lemmas.List.Sums.{prefix_len-le-length}
 use Rattle.xpath_values.specs.declared.value.XNum.{XNum}
-use Rattle.xpath_values.specs.declared.value.XNum.TheVariants.{Whole, NaN}
-use Rattle.xpath_values.specs.declared.reading.Reading.{Reading}
+use Rattle.xpath_values.specs.declared.value.XNum.TheVariants.{NaN}
 use Rattle.xpath_values.specs.declared.reading.Reading.TheVariants as r
-use Rattle.xpath_values.specs.Numbers.{is_digit, is_space4, whole, trimmed, digits_value, unsigned_number, signed_number, to_number}
+use Rattle.xpath_values.specs.Numbers.{is_digit, is_space4, trimmed, unsigned_number, signed_number, to_number}
 use Rattle.xpath_values.specs.Reading as s
 
 -- without white space at its end

@@ -1,5 +1,5 @@
 -- Two texts are the same bytes where they are the same characters.
-use Rattle.std.proofs.Common.{◌≡◌, refl, sym, ◌∙◌, ap, subst, ℕ, Bool, true, false, List, [], ◌∷◌, IsUtf8, encode_utf8_all, arith}
+use Rattle.std.proofs.Common.{◌≡◌, refl, sym, ◌∙◌, ap, ℕ, Bool, true, false, List, [], ◌∷◌, IsUtf8, encode_utf8_all, arith}
 use Rattle.std.specs.Prelude.{◌==◌, length}
 use Rattle.std.specs.Str.{chars, bytes_eq}
 use Rattle.std.proofs.lemmas.Bool.Decides.{nat_tests}

@@ -1,9 +1,9 @@
 -- Reading a number from left to right. This is the order of the code's work, and serves its contracts; which number a string
 -- stands for is said in Numbers.
-use Rattle.std.specs.Prelude.{◌≡◌, ℕ, ◌+◌, ◌-◌, ◌*◌, Bool, true, false, ◌==◌, nat_lt, if◌then◌else◌, List, [], ◌∷◌, ℤ, pos, neg_ℤ, IsTrue}
+use Rattle.std.specs.Prelude.{◌≡◌, ℕ, ◌+◌, ◌-◌, ◌*◌, Bool, true, false, ◌==◌, nat_lt, if◌then◌else◌, List, ℤ, pos, neg_ℤ}
 use Rattle.std.specs.List.{fold}
 use Rattle.xpath_values.specs.declared.value.XNum.{XNum}
-use Rattle.xpath_values.specs.declared.value.XNum.TheVariants.{Whole, NaN}
+use Rattle.xpath_values.specs.declared.value.XNum.TheVariants.{NaN}
 use Rattle.xpath_values.specs.declared.reading.Reading.{Reading}
 use Rattle.xpath_values.specs.declared.reading.Reading.TheVariants as r
 use Rattle.xpath_values.specs.Numbers.{is_digit, is_space4, whole}

@@ -1,0 +1,70 @@
+-- Why a text reads as no expression.
+use Rattle.std.specs.Prelude.{◌≡◌, ℕ, zero, suc, ◌<◌, ◌≤◌, false, if◌then◌else◌, List, [], ◌∷◌, length, Option, Some, None}
+use Rattle.text_base.specs.declared.reasons.XPathFault.{XPathFault}
+use Rattle.text_base.specs.declared.reasons.XPathFault.TheVariants as fault
+use Rattle.xpath_lexer.specs.Tokens.{Text, Lexeme, Spells}
+use Rattle.xpath_parser.specs.declared.expression.Expr.{Expr}
+use Rattle.xpath_parser.specs.declared.term.Term.{Term}
+use Rattle.xpath_parser.specs.declared.term.Term.TheVariants as t
+use Rattle.xpath_parser.specs.Terms.{terms, IsShallow}
+use Rattle.xpath_parser.specs.Grammar.{ReadsWhole}
+use Rattle.xpath_parser.specs.Shapes.{takes, is_well_typed}
+use Rattle.xpath_parser.specs.Reading.{most_bytes}
+
+-- ---- the refusals that stand at one token
+
+-- The commas up to the bracket that closes the one before the terms, without those in brackets further in, of which so many are open.
+abbrev pub commas : ℕ → List Term → ℕ
+commas d [] = 0
+commas d (t.OpenRound ∷ ts) = commas (suc d) ts
+commas d (t.OpenSquare ∷ ts) = commas (suc d) ts
+commas zero (t.CloseRound ∷ ts) = 0
+commas zero (t.CloseSquare ∷ ts) = 0
+commas (suc d) (t.CloseRound ∷ ts) = commas d ts
+commas (suc d) (t.CloseSquare ∷ ts) = commas d ts
+commas zero (t.Comma ∷ ts) = suc (commas zero ts)
+commas d (w ∷ ts) = commas d ts
+
+abbrev pub count_after_round : List Term → ℕ
+count_after_round (t.CloseRound ∷ ts) = 0
+count_after_round ts = suc (commas 0 ts)
+
+-- how many arguments a function has, by the terms after its name
+abbrev pub argument_count : List Term → ℕ
+argument_count (t.OpenRound ∷ ts) = count_after_round ts
+argument_count _ = 0
+
+abbrev pub fault_at : Term → List Term → Option XPathFault
+fault_at t.Fraction ts = Some fault.Fraction
+fault_at t.TooLarge ts = Some fault.Range
+fault_at t.Div ts = Some fault.Div
+fault_at t.Variable ts = Some fault.Variable
+fault_at t.Prefixed ts = Some fault.Prefix
+fault_at t.UnknownFunction ts = Some fault.Function
+fault_at (t.Function g) ts = if takes g (argument_count ts) then None else Some fault.Arguments
+fault_at _ ts = None
+
+abbrev pub or_later : Option XPathFault → Option XPathFault → Option XPathFault
+or_later (Some f) later = Some f
+or_later None later = later
+
+-- the first in the order of the text
+abbrev pub first_fault : List Term → Option XPathFault
+first_fault [] = None
+first_fault (w ∷ ts) = or_later (fault_at w ts) (first_fault ts)
+
+-- ---- the refusals, in their order
+
+-- The tokens spell the text, which is not too long, and not too many brackets are open.
+pub record IsFit (text : Text) (ws : List Lexeme) : Type 0 where
+  pub short : length text ≤ most_bytes
+  pub spelled : Spells text ws
+  pub shallow : IsShallow ws
+
+pub data IsXPathFault (text : Text) : XPathFault → Type 0 where
+  too_long : most_bytes < length text → IsXPathFault text fault.Long
+  unspelled : length text ≤ most_bytes → ((ws : List Lexeme) → Spells text ws → ⊥) → IsXPathFault text fault.Text
+  too_deep : {ws : List Lexeme} → length text ≤ most_bytes → Spells text ws → (IsShallow ws → ⊥) → IsXPathFault text fault.Deep
+  unread : {ws : List Lexeme} → IsFit text ws → ((x : Expr) → ReadsWhole (terms ws) x → ⊥) → IsXPathFault text fault.Syntax
+  at_token : {ws : List Lexeme} {x : Expr} {f : XPathFault} → IsFit text ws → ReadsWhole (terms ws) x → first_fault (terms ws) ≡ Some f → IsXPathFault text f
+  wrong_type : {ws : List Lexeme} {x : Expr} → IsFit text ws → ReadsWhole (terms ws) x → first_fault (terms ws) ≡ None → is_well_typed x ≡ false → IsXPathFault text fault.WrongType
