@@ -29,6 +29,7 @@ pub mod ReadBack
 pub mod Readings
 pub mod Rooms
 pub mod Spelling
+pub mod TemplateTerms
 pub mod Theorem
 pub mod Typed
 mod Worked
