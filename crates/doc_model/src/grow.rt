@@ -16,6 +16,7 @@ pub enum Piece<'p, 'q> {
 /// A document that grows at its end. Each call adds its row below the innermost element that is not yet closed, or
 /// below the root node. There is room for 4,294,967,295 rows. Where no memory is found, the rows stay as they were.
 pub trait Grow<'p> {
+    /// The document that comes of it.
     type Done: Tree;
 
     /// The rows so far, and the elements not yet closed.

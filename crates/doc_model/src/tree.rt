@@ -15,6 +15,7 @@ pub trait Tree {
     fn len(&self) -> u32
         ensures { result ≡ length (document self.now) };
 
+    /// What the row is.
     fn kind(&self, i: u32) -> Kind
         requires { i < length (document self.now) }
         ensures { result ≡ (row (document self.now) i).kind };

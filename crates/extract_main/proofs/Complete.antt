@@ -1,12 +1,12 @@
 -- How a run without faults ends.
-use Rattle.std.proofs.Common.{◌≡◌, ◌≢◌, refl, ℕ, zero, suc, ◌+◌, ◌<◌, ◌++◌, List, [], ◌∷◌, Option, Some, None, length, take, sym, ◌∙◌, ap, arith, inl, inr, append-nil}
-use Rattle.std.specs.Prelude.{IfSome, Bool, true, false, ◌⊎◌, slice_index_or}
-use Rattle.std.specs.Option.{option_map_or}
+use Rattle.std.proofs.Common.{◌≡◌, refl, ℕ, zero, suc, ◌<◌, List, [], ◌∷◌, Option, Some, None, length, sym, ap, arith, inl, inr, append-nil}
+use Rattle.std.specs.Prelude.{IfSome, true, false, ◌⊎◌, slice_index_or}
 use Rattle.io_edges.specs.Counts.{Rose, Grows}
 use Rattle.io_edges.specs.Pages.{page, Lacks}
-use Rattle.io_edges.specs.Sink.{grown, TakesPart, TakesFront}
+use Rattle.io_edges.specs.Sink.{grown, TakesPart}
 use Rattle.extract_main.specs.Answers.{Answer, bytes_of}
-use Rattle.extract_main.specs.Output.{Plan, alone, over, names_of, answers, known, page_answers, HasAll, Written, Stopped, Ended, Completes, Lacking}
+use Rattle.extract_main.specs.Output.{Plan, alone, over, names_of, known, HasAll, Written, Stopped, Completes}
+use Rattle.extract_main.specs.Ending.{Ended}
 use Rattle.extract_main.specs.declared.top.Status.{Status}
 use Rattle.extract_main.specs.declared.top.Status.TheVariants.{Done, Refused, Usage, Memory, ReadFault, WriteFault}
 

@@ -1,6 +1,6 @@
 -- What the words say is what they spell.
-use Rattle.std.proofs.Common.{◌≡◌, refl, ℕ, Bool, true, false, List, [], ◌∷◌, ap, sym, ◌∙◌, codes, Option, Some, None}
-use Rattle.std.specs.Prelude.{option_map, if◌then◌else◌, ◌↔◌}
+use Rattle.std.proofs.Common.{◌≡◌, refl, ℕ, Bool, true, false, List, [], ◌∷◌, ap, ◌∙◌, codes, Option, Some, None}
+use Rattle.std.specs.Prelude.{option_map, if◌then◌else◌}
 use Rattle.std.specs.Str.{bytes_eq}
 use Rattle.std.proofs.lemmas.Slice.Eq.{bytes_eq-Decides}
 use Rattle.css_meaning.specs.declared.selector.Dialect.{Dialect}

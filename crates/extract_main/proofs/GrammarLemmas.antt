@@ -1,7 +1,6 @@
 -- The machine reads what the grammar has, and nothing else.
-use Rattle.std.proofs.Common.{◌≡◌, ◌≢◌, refl, ℕ, Bool, true, false, List, [], ◌∷◌, ◌++◌, ap, sym, ◌∙◌, Option, Some, None, subst, append_assoc, append-nil, inl, inr, ◌⊎◌, ◌<◌, ◌+◌, length, get_or, drop, drop-cons, add-one, ◌≤◌, if◌then◌else◌}
+use Rattle.std.proofs.Common.{◌≡◌, ◌≢◌, refl, ℕ, false, List, [], ◌∷◌, ◌++◌, ap, sym, ◌∙◌, Option, Some, None, subst, append_assoc, append-nil, inl, inr, ◌⊎◌, ◌<◌, ◌+◌, length, get_or, drop, drop-cons, add-one, ◌≤◌, if◌then◌else◌}
 use Rattle.std.proofs.Math.ListN.{drop_of_length-le}
-use Rattle.std.specs.List.{AllByRecursion}
 use Rattle.extract_main.specs.declared.css_lexer.CssKind.{CssKind}
 use Rattle.extract_main.specs.declared.css_lexer.CssKind.TheVariants as k
 use Rattle.extract_main.specs.declared.css_lexer.CssToken.{CssToken}

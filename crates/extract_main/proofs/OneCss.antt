@@ -1,5 +1,5 @@
 -- A text has at most one list of selector tokens.
-use Rattle.std.proofs.Common.{◌≡◌, refl, ℕ, ◌+◌, ◌<◌, Bool, true, false, not, ◌&&◌, ◌||◌, List, [], ◌∷◌, ◌++◌, length, ap, sym, ◌∙◌, subst, arith}
+use Rattle.std.proofs.Common.{◌≡◌, refl, ℕ, ◌+◌, Bool, true, false, List, [], ◌∷◌, ◌++◌, length, ap, sym, ◌∙◌, subst, arith}
 use Rattle.std.specs.List.{list_all}
 use Rattle.std.proofs.lemmas.Bool.Decides.{nat_tests}
 use Rattle.extract_main.proofs.Both.{and_both}
@@ -7,7 +7,7 @@ use Rattle.text_base.specs.Text.{is_space5}
 use Rattle.extract_main.specs.declared.css_lexer.CssKind.{CssKind}
 use Rattle.extract_main.specs.declared.css_lexer.CssKind.TheVariants as k
 use Rattle.extract_main.specs.declared.css_lexer.CssToken.{CssToken}
-use Rattle.extract_main.specs.CssTokens.{is_start, is_digit, is_ident_char, goes_on, starts, begins, is_css_token, css_value, Spells, StandsFirst}
+use Rattle.extract_main.specs.CssTokens.{is_start, is_digit, goes_on, starts, begins, is_css_token, css_value, Spells, StandsFirst}
 
 first_of_list : List ℕ → ℕ
 first_of_list [] = 0

@@ -1,23 +1,21 @@
 -- An accepted list is one plain selector of few parts.
-use Rattle.std.proofs.Common.{◌≡◌, refl, ℕ, ◌+◌, ◌^◌, ◌<◌, ◌≤◌, Bool, true, false, ◌&&◌, List, [], ◌∷◌, ◌++◌, length, ap, sym, ◌∙◌, subst, arith, Option, Some, None, sum_by, length-append}
+use Rattle.std.proofs.Common.{◌≡◌, refl, ℕ, ◌+◌, ◌<◌, ◌≤◌, true, List, [], ◌∷◌, ◌++◌, length, ap, sym, ◌∙◌, subst, arith, Option, Some, None, sum_by, length-append}
 use Rattle.std.specs.List.{list_all, AllByRecursion}
 use Rattle.std.proofs.lemmas.Bool.Decides.{nat_tests}
 use Rattle.std.proofs.lemmas.List.Sums.{sum_by-cons}
 use Rattle.css_meaning.specs.declared.selector.Link.{Link}
 use Rattle.css_meaning.specs.declared.selector.Link.TheVariants as link
 use Rattle.css_meaning.specs.declared.selector.Part.{Part}
-use Rattle.css_meaning.specs.declared.selector.Selector.{Selector}
 use Rattle.css_meaning.specs.declared.selector.SelectorList.{SelectorList}
 use Rattle.css_meaning.specs.declared.selector.Tail.TheVariants as tail
-use Rattle.css_meaning.specs.Specificity.{size_of}
 use Rattle.css_translate.specs.Names.{is_plain, is_plain_start, is_plain_char}
 use Rattle.css_translate.specs.Plain.{is_plain_element, is_inner_link, IsPlainNext, IsPlainParts, HasPlainName, IsOnePlain}
 use Rattle.extract_main.proofs.Both.{and_both, both_and}
 use Rattle.extract_main.specs.declared.css_lexer.CssKind.{CssKind}
 use Rattle.extract_main.specs.declared.css_lexer.CssKind.TheVariants as k
 use Rattle.extract_main.specs.declared.css_lexer.CssToken.{CssToken}
-use Rattle.extract_main.specs.CssTokens.{is_start, is_ident_char, is_css_token, css_value, Spells, StandsFirst}
-use Rattle.extract_main.specs.Grammar.{AreSpace, IsElement, IsCombinator, ReadsMore, ReadsParts}
+use Rattle.extract_main.specs.CssTokens.{is_start, is_ident_char, is_css_token, css_value, Spells}
+use Rattle.extract_main.specs.Grammar.{IsElement, IsCombinator, ReadsMore, ReadsParts}
 use Rattle.extract_main.specs.Selecting.{Accepts, most_selector}
 use Rattle.extract_main.specs.Lines.{IsSmall}
 

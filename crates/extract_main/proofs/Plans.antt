@@ -1,5 +1,5 @@
 -- Each command has exactly one plan.
-use Rattle.std.proofs.Common.{◌≡◌, refl, ℕ, ◌<◌, ◌≤◌, Bool, true, false, List, [], ◌∷◌, ◌++◌, length, ap, sym, ◌∙◌, subst, Option, Some, arith, inl, inr, ◌⊎◌, codes}
+use Rattle.std.proofs.Common.{◌≡◌, refl, ℕ, ◌<◌, ◌≤◌, true, false, List, ◌++◌, length, ap, sym, ◌∙◌, subst, Option, Some, arith, inl, inr, ◌⊎◌, codes}
 use Rattle.std.specs.Prelude.{Result, IfOk, IsOkAnd, Ok, Err}
 use Rattle.std.proofs.lemmas.Result.{IfOk-weaker}
 use Rattle.text_base.specs.declared.memory.NoMemory.{NoMemory}
@@ -15,13 +15,13 @@ use Rattle.extract_main.specs.Answers.{Answer, answer_of}
 use Rattle.extract_main.specs.Lines.{css_text, reason_text}
 use Rattle.extract_main.specs.Selecting.{Accepts}
 use Rattle.extract_main.specs.Words.{Command, css}
-use Rattle.extract_main.specs.Output.{Plan, alone, over, IsPlan, IsCssLine, IsListLine, IsRefusalLine, Refuses, most_xpath}
+use Rattle.extract_main.specs.Output.{Plan, alone, over, IsPlan, IsCssLine, IsListLine, IsRefusalLine, IsRefusedFor, most_xpath}
 use Rattle.extract_main.proofs.Readings.{one_list, one_or_other, one_reason, some_reading, within_or_past}
 
 list_and_refusal : (d : Dialect) (text : List ℕ) (a b : Answer) → IsListLine d text a → IsRefusalLine d text b → ⊥
 list_and_refusal d text a b h g = too_long g.why (one_or_other d text h.list h.accepted g.why g.cause) g.cause
   where
-    too_long : (why : SelectorFault) → why ≡ fault.XPathLong → Refuses d text why → ⊥
+    too_long : (why : SelectorFault) → why ≡ fault.XPathLong → IsRefusedFor d text why → ⊥
     too_long fault.XPathLong e r =
         let same : length (printed d r.list) ≡ length (printed d h.list) = ap (λ l. length (printed d l)) (one_list text r.list h.list r.accepted h.accepted) in
         let long : most_xpath < length (printed d r.list) = r.long in

@@ -11,14 +11,13 @@ use Rattle.css_meaning.specs.declared.selector.SelectorList.{SelectorList}
 use Rattle.css_meaning.specs.declared.selector.Tail.TheVariants as tail
 use Rattle.css_translate.specs.Printed.{printed}
 use Rattle.css_translate.specs.Promise.{KeepsMeaning}
-use Rattle.extract_main.specs.declared.css_lexer.CssToken.{CssToken}
 use Rattle.extract_main.specs.declared.css_parser.Place.TheVariants as place
 use Rattle.extract_main.specs.CssTokens.{is_built}
 use Rattle.extract_main.specs.Machine.{machine}
 use Rattle.extract_main.specs.Selecting.{Accepts, IsLong, IsUnbuilt, IsWrong, most_selector}
-use Rattle.extract_main.specs.Output.{Refuses, IsXPathLong}
+use Rattle.extract_main.specs.Output.{IsRefusedFor, IsXPathLong}
 use Rattle.extract_main.specs.Laws.{OneReading}
-use Rattle.extract_main.proofs.GrammarLemmas.{sound, parts_read}
+use Rattle.extract_main.proofs.GrammarLemmas.{parts_read}
 use Rattle.extract_main.proofs.OneCss.{one_spelling}
 use Rattle.extract_main.proofs.SelectingLemmas.{accepted, not_accepted}
 use Rattle.extract_main.proofs.Spellings.{Spelling, spelling, spelled_built}
@@ -48,7 +47,7 @@ keeps_for d text xpath list h e keeps other g =
 accepted_built : (text : List ℕ) (list : SelectorList) → Accepts text list → list_all is_built text ≡ true
 accepted_built text list h = spelled_built 0 text h.tokens h.spelled
 
-pub one_or_other : (d : Dialect) (text : List ℕ) (list : SelectorList) → Accepts text list → (why : SelectorFault) → Refuses d text why → why ≡ fault.XPathLong
+pub one_or_other : (d : Dialect) (text : List ℕ) (list : SelectorList) → Accepts text list → (why : SelectorFault) → IsRefusedFor d text why → why ≡ fault.XPathLong
 one_or_other d text list h fault.Long r = let short : length text ≤ most_selector = h.short in absurd (omega arith)
 one_or_other d text list h fault.Syntax r = absurd (r.2 list h)
 one_or_other d text list h fault.Unbuilt r = let x : true ≡ false = sym (accepted_built text list h) ∙ r.1 in cc
@@ -57,31 +56,31 @@ one_or_other d text list h _ r = absurd r
 
 -- at most one reason
 
-long_alone : (d : Dialect) (text : List ℕ) → IsLong text → (why : SelectorFault) → Refuses d text why → fault.Long ≡ why
+long_alone : (d : Dialect) (text : List ℕ) → IsLong text → (why : SelectorFault) → IsRefusedFor d text why → fault.Long ≡ why
 long_alone d text h fault.Long r = refl
 long_alone d text h fault.Syntax r = let short : length text ≤ most_selector = r.0 in absurd (omega arith)
 long_alone d text h fault.Unbuilt r = let short : length text ≤ most_selector = r.0 in absurd (omega arith)
 long_alone d text h fault.XPathLong r = let short : length text ≤ most_selector = r.accepted.short in absurd (omega arith)
 long_alone d text h _ r = absurd r
 
-unbuilt_alone : (d : Dialect) (text : List ℕ) → IsUnbuilt text → (why : SelectorFault) → Refuses d text why → fault.Unbuilt ≡ why
+unbuilt_alone : (d : Dialect) (text : List ℕ) → IsUnbuilt text → (why : SelectorFault) → IsRefusedFor d text why → fault.Unbuilt ≡ why
 unbuilt_alone d text h fault.Long r = sym (long_alone d text r fault.Unbuilt h)
 unbuilt_alone d text h fault.Syntax r = let x : true ≡ false = sym r.1 ∙ h.1 in cc
 unbuilt_alone d text h fault.Unbuilt r = refl
 unbuilt_alone d text h fault.XPathLong r = let x : true ≡ false = sym (accepted_built text r.list r.accepted) ∙ h.1 in cc
 unbuilt_alone d text h _ r = absurd r
 
-wrong_alone : (d : Dialect) (text : List ℕ) → IsWrong text → (why : SelectorFault) → Refuses d text why → fault.Syntax ≡ why
+wrong_alone : (d : Dialect) (text : List ℕ) → IsWrong text → (why : SelectorFault) → IsRefusedFor d text why → fault.Syntax ≡ why
 wrong_alone d text h fault.Long r = sym (long_alone d text r fault.Syntax h)
 wrong_alone d text h fault.Syntax r = refl
 wrong_alone d text h fault.Unbuilt r = sym (unbuilt_alone d text r fault.Syntax h)
 wrong_alone d text h fault.XPathLong r = absurd (h.2 r.list r.accepted)
 wrong_alone d text h _ r = absurd r
 
-xpath_alone : (d : Dialect) (text : List ℕ) → IsXPathLong d text → (why : SelectorFault) → Refuses d text why → fault.XPathLong ≡ why
+xpath_alone : (d : Dialect) (text : List ℕ) → IsXPathLong d text → (why : SelectorFault) → IsRefusedFor d text why → fault.XPathLong ≡ why
 xpath_alone d text h why r = sym (one_or_other d text h.list h.accepted why r)
 
-pub one_reason : (d : Dialect) (text : List ℕ) (a b : SelectorFault) → Refuses d text a → Refuses d text b → a ≡ b
+pub one_reason : (d : Dialect) (text : List ℕ) (a b : SelectorFault) → IsRefusedFor d text a → IsRefusedFor d text b → a ≡ b
 one_reason d text fault.Long b h g = long_alone d text h b g
 one_reason d text fault.Syntax b h g = wrong_alone d text h b g
 one_reason d text fault.Unbuilt b h g = unbuilt_alone d text h b g
@@ -104,7 +103,7 @@ within_or_past a b = by_test (nat_le a b) refl
     by_test false e = inr (more_than a b e)
 
 abbrev IsRead : Dialect → List ℕ → Type 0
-IsRead d text = ((a : SelectorList) × Accepts text a) ⊎ ((why : SelectorFault) × Refuses d text why)
+IsRead d text = ((a : SelectorList) × Accepts text a) ⊎ ((why : SelectorFault) × IsRefusedFor d text why)
 
 read_tokens : (d : Dialect) (text : List ℕ) → length text ≤ most_selector → list_all is_built text ≡ true → Spelling 0 text → IsRead d text
 read_tokens d text short built s = by_machine (machine place.Start s.tokens) refl

@@ -1,15 +1,13 @@
 -- When a text is accepted, and when it is not.
-use Rattle.std.proofs.Common.{◌≡◌, ℕ, ◌≤◌, Bool, true, false, List, [], ◌∷◌, length, ap, sym, ◌∙◌, Option, Some, None, subst}
-use Rattle.std.specs.List.{list_all}
+use Rattle.std.proofs.Common.{◌≡◌, ℕ, ◌≤◌, List, [], ◌∷◌, length, ap, sym, ◌∙◌, Some, None}
 use Rattle.css_meaning.specs.declared.selector.SelectorList.{SelectorList}
 use Rattle.css_meaning.specs.declared.selector.Part.{Part}
 use Rattle.css_meaning.specs.declared.selector.Tail.TheVariants as tail
 use Rattle.extract_main.specs.declared.css_lexer.CssToken.{CssToken}
 use Rattle.extract_main.specs.declared.css_parser.Place.TheVariants as place
-use Rattle.extract_main.specs.CssTokens.{Spells, is_built}
-use Rattle.extract_main.specs.Grammar.{ReadsParts}
+use Rattle.extract_main.specs.CssTokens.{Spells}
 use Rattle.extract_main.specs.Machine.{machine}
-use Rattle.extract_main.specs.Selecting.{Accepts, IsWrong, most_selector}
+use Rattle.extract_main.specs.Selecting.{Accepts, most_selector}
 use Rattle.extract_main.proofs.GrammarLemmas.{sound, parts_read}
 use Rattle.extract_main.proofs.OneCss.{one_spelling}
 

@@ -1,12 +1,12 @@
 -- Each text of the forms that are built is spelled by some tokens, and only such a text is.
-use Rattle.std.proofs.Common.{◌≡◌, refl, ℕ, zero, suc, ◌+◌, ◌≤◌, Bool, true, false, ◌&&◌, List, [], ◌∷◌, ◌++◌, length, ap, sym, ◌∙◌, arith, length-append}
+use Rattle.std.proofs.Common.{◌≡◌, refl, ℕ, zero, suc, ◌+◌, ◌≤◌, Bool, true, false, List, [], ◌∷◌, ◌++◌, length, ap, sym, ◌∙◌, arith, length-append}
 use Rattle.std.specs.List.{list_all}
 use Rattle.std.proofs.lemmas.Bool.Decides.{nat_tests}
 use Rattle.text_base.specs.Text.{is_space5}
 use Rattle.extract_main.specs.declared.css_lexer.CssKind.{CssKind}
 use Rattle.extract_main.specs.declared.css_lexer.CssKind.TheVariants as k
 use Rattle.extract_main.specs.declared.css_lexer.CssToken.{CssToken}
-use Rattle.extract_main.specs.CssTokens.{is_built, is_start, is_digit, is_ident_char, goes_on, starts, begins, is_css_token, css_value, Spells, StandsFirst}
+use Rattle.extract_main.specs.CssTokens.{is_built, is_start, is_digit, is_ident_char, goes_on, starts, begins, is_css_token, css_value, Spells}
 use Rattle.extract_main.proofs.Both.{and_both, both_and}
 
 -- a text is a run of characters that pass, and what follows it

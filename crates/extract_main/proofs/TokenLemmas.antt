@@ -1,16 +1,16 @@
 -- Tokens of the forms that are built.
-use Rattle.std.proofs.Common.{◌≡◌, refl, ℕ, zero, suc, ◌+◌, ◌-◌, ◌<◌, ◌≤◌, Bool, true, false, ◌&&◌, ◌||◌, List, [], ◌∷◌, ◌++◌, length, take, drop, get_or, ap, sym, ◌∙◌, subst, arith, encode_utf8_all, append_assoc, append-nil, length-drop}
+use Rattle.std.proofs.Common.{◌≡◌, refl, ℕ, zero, suc, ◌+◌, ◌-◌, ◌<◌, ◌≤◌, Bool, true, false, List, [], ◌∷◌, ◌++◌, length, take, drop, get_or, ap, sym, ◌∙◌, subst, arith, encode_utf8_all, append_assoc, append-nil, length-drop}
 use Rattle.std.proofs.lemmas.List.{take-append-drop, length-take-le, drop-drop}
 use Rattle.std.proofs.Math.ListN.{drop_of_length-le}
 use Rattle.std.specs.List.{list_all}
 use Rattle.std.specs.Str.{chars}
 use Rattle.std.proofs.lemmas.Str.{chars-encodes, encode_ascii}
 use Rattle.std.proofs.lemmas.Bool.Decides.{nat_tests}
-use lib.Utf8.{scalar, scalars, encode}
+use lib.Utf8.{scalar, scalars}
 use Rattle.extract_main.proofs.Both.{and_both, both_and}
 use Rattle.extract_main.specs.declared.css_lexer.CssKind.{CssKind}
 use Rattle.extract_main.specs.declared.css_lexer.CssToken.{CssToken}
-use Rattle.extract_main.specs.CssTokens.{is_built, goes_on, starts, begins, is_css_token, css_value, Spells, StandsFirst}
+use Rattle.extract_main.specs.CssTokens.{is_built, goes_on, starts, begins, is_css_token, css_value, Spells}
 use Rattle.extract_main.specs.Machine.{IsTokenAt}
 
 built_ascii : (c : ℕ) → is_built c ≡ true → c < 128

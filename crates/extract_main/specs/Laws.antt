@@ -5,14 +5,14 @@ use Rattle.css_meaning.specs.declared.selector.Dialect.{Dialect}
 use Rattle.css_meaning.specs.declared.selector.SelectorList.{SelectorList}
 use Rattle.extract_main.specs.Selecting.{Accepts}
 use Rattle.extract_main.specs.Words.{Command, words_of, read}
-use Rattle.extract_main.specs.Output.{Plan, IsPlan, Refuses}
+use Rattle.extract_main.specs.Output.{Plan, IsPlan, IsRefusedFor}
 
 -- A text is accepted as at most one list, is refused for at most one reason, and is not both accepted and refused but for the length of its XPath.
 pub record OneReading (d : Dialect) (text : List ℕ) : Type 0 where
   pub one_list : (a b : SelectorList) → Accepts text a → Accepts text b → a ≡ b
-  pub one_reason : (a b : SelectorFault) → Refuses d text a → Refuses d text b → a ≡ b
-  pub one_or_other : (a : SelectorList) → Accepts text a → (why : SelectorFault) → Refuses d text why → why ≡ SelectorFault.XPathLong
-  pub some : ((a : SelectorList) × Accepts text a) ⊎ ((why : SelectorFault) × Refuses d text why)
+  pub one_reason : (a b : SelectorFault) → IsRefusedFor d text a → IsRefusedFor d text b → a ≡ b
+  pub one_or_other : (a : SelectorList) → Accepts text a → (why : SelectorFault) → IsRefusedFor d text why → why ≡ SelectorFault.XPathLong
+  pub some : ((a : SelectorList) × Accepts text a) ⊎ ((why : SelectorFault) × IsRefusedFor d text why)
 
 abbrev pub ReadingLaw : Type 0
 ReadingLaw = (d : Dialect) (text : List ℕ) → OneReading d text

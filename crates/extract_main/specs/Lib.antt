@@ -1,5 +1,6 @@
 pub mod Answers
 pub mod CssTokens
+pub mod Ending
 pub mod Grammar
 pub mod Laws
 pub mod Lines

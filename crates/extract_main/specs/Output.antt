@@ -9,13 +9,13 @@ use Rattle.css_meaning.specs.declared.selector.SelectorList.{SelectorList}
 use Rattle.css_translate.specs.Printed.{printed}
 use Rattle.io_edges.specs.Counts.{Rose, Grows}
 use Rattle.io_edges.specs.Pages.{page, Lacks}
-use Rattle.io_edges.specs.Sink.{grown, TakesPart}
+use Rattle.io_edges.specs.Sink.{grown}
 use Rattle.extract_main.specs.Selecting.{Accepts, IsLong, IsUnbuilt, IsWrong}
 use Rattle.extract_main.specs.Lines.{css_text, reason_text}
 use Rattle.extract_main.specs.Answers.{Answer, bytes_of, refuses}
 use Rattle.extract_main.specs.Words.{Command, css}
 use Rattle.extract_main.specs.declared.top.Status.{Status}
-use Rattle.extract_main.specs.declared.top.Status.TheVariants.{Done, Refused, Usage, Memory, ReadFault, WriteFault}
+use Rattle.extract_main.specs.declared.top.Status.TheVariants.{Done, Refused, Memory, ReadFault}
 
 -- the most bytes of a printed XPath
 abbrev pub most_xpath : ℕ
@@ -35,23 +35,23 @@ pub record IsXPathLong (d : Dialect) (text : List ℕ) : Type 0 where
   pub long : most_xpath < length (printed d list)
 
 -- why a selector is refused
-abbrev pub Refuses : Dialect → List ℕ → SelectorFault → Type 0
-Refuses d text fault.Long = IsLong text
-Refuses d text fault.Text = ⊥
-Refuses d text fault.Syntax = IsWrong text
-Refuses d text fault.Prefix = ⊥
-Refuses d text fault.UnknownPseudo = ⊥
-Refuses d text fault.PseudoElement = ⊥
-Refuses d text fault.OfType = ⊥
-Refuses d text fault.Number = ⊥
-Refuses d text fault.XPathLong = IsXPathLong d text
-Refuses d text fault.Unbuilt = IsUnbuilt text
-Refuses d text fault.Memory = ⊥
+abbrev pub IsRefusedFor : Dialect → List ℕ → SelectorFault → Type 0
+IsRefusedFor d text fault.Long = IsLong text
+IsRefusedFor d text fault.Text = ⊥
+IsRefusedFor d text fault.Syntax = IsWrong text
+IsRefusedFor d text fault.Prefix = ⊥
+IsRefusedFor d text fault.UnknownPseudo = ⊥
+IsRefusedFor d text fault.PseudoElement = ⊥
+IsRefusedFor d text fault.OfType = ⊥
+IsRefusedFor d text fault.Number = ⊥
+IsRefusedFor d text fault.XPathLong = IsXPathLong d text
+IsRefusedFor d text fault.Unbuilt = IsUnbuilt text
+IsRefusedFor d text fault.Memory = ⊥
 
 -- the text is refused: the line has the reason
 pub record IsRefusalLine (d : Dialect) (text : List ℕ) (a : Answer) : Type 0 where
   pub why : SelectorFault
-  pub cause : Refuses d text why
+  pub cause : IsRefusedFor d text why
   pub line : a ≡ record { text = reason_text (codes "css." ++ selector_word why); refused = true }
 
 -- the line of a selector
@@ -126,13 +126,3 @@ Completes plan told taken taken' status =
 abbrev pub Lacking : Plan → List (List ℕ × List ℕ) → Option (List ℕ) → Option (List ℕ) → Status → Type 0
 Lacking plan told taken taken' status =
     (status ≡ Memory) ⊎ ((status ≡ ReadFault) × (taken' ≡ grown taken (bytes_of (answers plan told))))
-
--- For the contracts of private functions: all that is said of how a run ended.
-pub record Ended (plan : Plan) (told : Option (List (List ℕ × List ℕ))) (begun begun' faults faults' : ℕ) (taken taken' : Option (List ℕ)) (sink sink' : ℕ) (status : Status) : Type 0 where
-  pub prefix : IfSome (known plan told) (λ pages. TakesPart taken (bytes_of (answers plan pages)) taken')
-  pub done : status ≡ Done → IfSome (known plan told) (λ pages. Written plan pages taken taken' false)
-  pub refused : status ≡ Refused → IfSome (known plan told) (λ pages. Written plan pages taken taken' true)
-  pub begun_all : (status ≡ Done) ⊎ (status ≡ Refused) → Grows begun (length (names_of plan)) begun'
-  pub read_fault : status ≡ ReadFault → Stopped plan told begun begun' faults faults' taken taken'
-  pub write_fault : status ≡ WriteFault → Rose sink sink'
-  pub used : status ≢ Usage

@@ -8,7 +8,8 @@ ghost use Rattle.css_translate.specs.Promise.{KeepsMeaning};
 ghost use Rattle.extract_main.specs.Selecting.{Accepts};
 ghost use Rattle.extract_main.specs.Answers.{Answer, answer_of, line_bytes, bytes_of};
 ghost use Rattle.extract_main.specs.Words.{Command, css, read, command_of};
-ghost use Rattle.extract_main.specs.Output.{ForPlan, names_of, alone, answers, known, HasAll, Written, Stopped, Ended, Completes, Lacking};
+ghost use Rattle.extract_main.specs.Output.{ForPlan, names_of, alone, answers, known, HasAll, Written, Stopped, Completes, Lacking};
+ghost use Rattle.extract_main.specs.Ending.{Ended};
 ghost use Rattle.extract_main.specs.Numbers.{status_number};
 
 use crate::answers::{Line, css_answer};

@@ -2,7 +2,6 @@ use Rattle.std.proofs.Common.{◌≡◌, ◌+◌, ◌^◌, ◌<◌, List, ℕ, [
 use Rattle.std.specs.Prelude.{IfOk}
 use Rattle.std.specs.Str.{chars}
 use Rattle.doc_model.specs.Growing.{Growing, fresh, with_element, with_attr, with_text, with_comment, with_close, AwaitsAttr, AwaitsText}
-use Rattle.doc_model.specs.Worked.{worked}
 use Rattle.doc_model.proofs.Awaits.{awaits_first_attr, awaits_text}
 use Rattle.doc_model.proofs.Grown.{grown_fresh}
 use Rattle.doc_model.proofs.tests.build.Goals as goal

@@ -1,4 +1,3 @@
-use Rattle.std.proofs.Common.{◌∙◌, sym}
 use Rattle.extract_main.proofs.PlainLemmas.{one_plain, all_small}
 use Rattle.extract_main.proofs.Readings.{keeps_for}
 use Rattle.extract_main.proofs.answers.css_answer.Goals as goal

@@ -1,4 +1,4 @@
-use Rattle.std.proofs.Common.{◌≡◌, ◌≤◌, ◌-◌, ◌++◌, List, drop, length}
+use Rattle.std.proofs.Common.{◌≤◌, ◌-◌, ◌++◌, List, drop, length}
 use Rattle.extract_main.specs.declared.css_lexer.CssToken.{CssToken}
 use Rattle.extract_main.specs.CssTokens.{Spells}
 use Rattle.extract_main.proofs.css_lexer.css_tokens.Given as goal

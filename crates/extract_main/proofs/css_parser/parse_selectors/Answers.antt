@@ -1,4 +1,4 @@
-use Rattle.std.proofs.Common.{◌≡◌, Bool, true, List, length, ◌≤◌, arith, inl, inr, rules}
+use Rattle.std.proofs.Common.{◌≡◌, true, length, ◌≤◌, arith, inl, inr, rules}
 use Rattle.std.proofs.lemmas.Result.{IfOk-weaker}
 use Rattle.std.specs.List.{list_all}
 use Rattle.extract_main.specs.CssTokens.{is_built}

@@ -1,4 +1,4 @@
-use Rattle.std.proofs.Common.{◌≡◌, refl, inr, sym, ap, ◌∙◌, Some, ◌++◌, ◌∷◌, []}
+use Rattle.std.proofs.Common.{refl, inr, sym, ap, ◌∙◌, Some, ◌++◌, ◌∷◌, []}
 use Rattle.extract_main.specs.Machine.{element_at}
 use Rattle.extract_main.specs.declared.css_lexer.CssKind.TheVariants as k
 use Rattle.extract_main.proofs.GrammarLemmas as g

@@ -1,4 +1,4 @@
-use Rattle.std.proofs.Common.{◌≡◌, drop, Option}
+use Rattle.std.proofs.Common.{◌≡◌, drop}
 use Rattle.extract_main.specs.declared.css_parser.Place.TheVariants.{Start}
 use Rattle.extract_main.specs.Machine.{machine, added}
 use Rattle.extract_main.proofs.css_parser.read_parts.Given as goal
