@@ -27,6 +27,7 @@ pub mod PlainNames
 pub mod Pushes
 pub mod ReadBack
 pub mod Readings
+pub mod ReadsPieces
 pub mod Rooms
 pub mod Spelling
 pub mod TemplateTerms
