@@ -27,7 +27,10 @@ pub mod PlainNames
 pub mod Pushes
 pub mod ReadBack
 pub mod Readings
+pub mod ReadsAttributes
+pub mod ReadsNames
 pub mod ReadsPieces
+pub mod ReadsPositions
 pub mod Rooms
 pub mod Spelling
 pub mod TemplateTerms
