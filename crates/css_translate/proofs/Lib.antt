@@ -31,6 +31,9 @@ pub mod ReadsAttributes
 pub mod ReadsNames
 pub mod ReadsPieces
 pub mod ReadsPositions
+pub mod ReadsPseudo
+pub mod ReadsSelectors
+pub mod ReadsTests
 pub mod Rooms
 pub mod Spelling
 pub mod TemplateTerms
