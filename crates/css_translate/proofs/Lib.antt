@@ -39,4 +39,5 @@ pub mod Spelling
 pub mod TemplateTerms
 pub mod Theorem
 pub mod Typed
+pub mod TypesPieces
 mod Worked
