@@ -40,4 +40,6 @@ pub mod TemplateTerms
 pub mod Theorem
 pub mod Typed
 pub mod TypesPieces
+pub mod TypesSelectors
+pub mod TypesTests
 mod Worked

@@ -123,9 +123,9 @@ pub all_of : {A : Type 0} (f : A → List Expr) → ((x : A) → AllRight (f x))
 all_of f each [] = no_expression
 all_of f each (x ∷ xs) = join (each x) (all_of f each xs)
 
-pub each_one : {A : Type 0} (s : Shape) (f : A → Expr) → ((x : A) → Typed (f x) s) → (xs : List A) → AllRight (map f xs)
-each_one s f each [] = no_expression
-each_one s f each (x ∷ xs) = front (each x) (each_one s f each xs)
+pub each_one : {A : Type 0} (f : A → Expr) → ((x : A) → AllRight (f x ∷ [])) → (xs : List A) → AllRight (map f xs)
+each_one f each [] = no_expression
+each_one f each (x ∷ xs) = join (each x) (each_one f each xs)
 
 pub or_typed : {xs : List Expr} → AllRight xs → Typed (e.Or xs) shape.Bool
 or_typed {xs} h = record { is = or_typing xs ∙ ap (λ b. record { shape = shape.Bool; right = b }) h.all }
