@@ -1,3 +1,4 @@
+pub mod KeepsAll
 pub mod Links
 pub mod LinksNext
 pub mod LiteralBytes
