@@ -1,5 +1,5 @@
 -- The tests of attributes, as predicates.
-use Rattle.std.proofs.Common.{◌≡◌, subst, sym, refl, append_assoc, ℕ, Bool, true, false, cond, List, [], ◌∷◌, ◌++◌, length, codes, ◌-◌, ◌||◌}
+use Rattle.std.proofs.Common.{subst, refl, append_assoc, ℕ, Bool, true, false, cond, List, [], ◌∷◌, ◌++◌, length, codes, ◌-◌, ◌||◌}
 use Rattle.std.specs.List.{list_any}
 use Rattle.text_base.specs.Text.{is_space5}
 use Rattle.text_base.specs.Strings.{is_empty}

@@ -1,6 +1,5 @@
 -- The ways in which terms are put together to expressions, steps and predicates.
 use Rattle.std.proofs.Common.{◌≡◌, refl, sym, ◌∙◌, ap, subst, ℕ, suc, true, List, [], ◌∷◌, ◌++◌, map, append-nil, append_assoc}
-use Rattle.std.specs.Prelude.{pos}
 use Rattle.std.specs.List.{flat_map}
 use Rattle.doc_model.specs.declared.Axis.{Axis}
 use Rattle.doc_model.specs.declared.Axis.TheVariants as axis
@@ -18,7 +17,7 @@ use Rattle.xpath_parser.specs.declared.term.Term.{Term}
 use Rattle.xpath_parser.specs.declared.term.Term.TheVariants as t
 use Rattle.xpath_parser.specs.Grammar as g
 use Rattle.xpath_parser.specs.Grammar.{Reads, tier_of}
-use Rattle.css_translate.specs.Predicates.{step, path, joins, equals, both, number}
+use Rattle.css_translate.specs.Predicates.{step, joins, equals, both, number}
 use Rattle.css_translate.proofs.Readings.{up, to_2, to_5, whole}
 use Rattle.css_translate.proofs.TemplateTerms as p
 
@@ -119,9 +118,9 @@ bracket {a} r = record { front = λ b ys q. g.preds_more r q (append_assoc a (t.
 pub join : {s u : List Term} {xs ys : List Expr} → Brackets s xs → Brackets u ys → Brackets (s ++ u) (xs ++ ys)
 join {s} {u} {xs} {ys} h k = record {
   front = λ b zs r.
-  let P : List Term → Type 0 = λ ts. Reads ts (g.preds ((xs ++ ys) ++ zs)) in
-  let Q : List Expr → Type 0 = λ es. Reads (s ++ (u ++ b)) (g.preds es) in
-  subst P (sym (append_assoc s u b)) (subst Q (sym (append_assoc xs ys zs)) (h.front (u ++ b) (ys ++ zs) (k.front b zs r)));
+      let P : List Term → Type 0 = λ ts. Reads ts (g.preds ((xs ++ ys) ++ zs)) in
+      let Q : List Expr → Type 0 = λ es. Reads (s ++ (u ++ b)) (g.preds es) in
+      subst P (sym (append_assoc s u b)) (subst Q (sym (append_assoc xs ys zs)) (h.front (u ++ b) (ys ++ zs) (k.front b zs r)));
 }
 
 pub all_of : {A : Type 0} (f : A → List Term) (h : A → List Expr) → ((x : A) → Brackets (f x) (h x)) → (xs : List A) → Brackets (flat_map f xs) (flat_map h xs)

@@ -1,7 +1,6 @@
 -- Parts, tails, selectors and lists, as expressions.
-use Rattle.std.proofs.Common.{◌≡◌, refl, sym, ◌∙◌, ap, subst, ◌<◌, ℕ, List, [], ◌∷◌, ◌++◌, map, length, append-nil, append_assoc, Option, Some, None, arith}
-use Rattle.std.specs.Prelude.{All}
-use Rattle.std.specs.List.{flat_map, AllByRecursion}
+use Rattle.std.proofs.Common.{◌≡◌, refl, sym, ap, subst, ◌<◌, ℕ, List, [], ◌∷◌, ◌++◌, map, length, append-nil, append_assoc, Option, Some, None, arith}
+use Rattle.std.specs.List.{AllByRecursion}
 use Rattle.std.proofs.lemmas.List.Elements.{recursion_from_All}
 use Rattle.doc_model.specs.declared.Axis.TheVariants as axis
 use Rattle.css_meaning.specs.declared.selector.Dialect.{Dialect}
@@ -23,7 +22,7 @@ use Rattle.xpath_parser.specs.Grammar as g
 use Rattle.xpath_parser.specs.Grammar.{Reads, ReadsWhole, Operands}
 use Rattle.css_translate.specs.Expression.{part_step, link_test, link_brackets, axis_of, next_brackets, tail_steps, selector_expression, expression, united}
 use Rattle.css_translate.specs.Predicates.{step, simple_predicates}
-use Rattle.css_translate.proofs.Readings.{up, whole, to_2, to_5, to_8}
+use Rattle.css_translate.proofs.Readings.{up, whole, to_5, to_8}
 use Rattle.css_translate.proofs.ReadsPieces.{Brackets, no_brackets, bracket, join, all_of, any_tested, text_tested, with, axis_step, child_step, number_reads}
 use Rattle.css_translate.proofs.ReadsNames.{element_tested, elements_read, attribute_step_reads}
 use Rattle.css_translate.proofs.ReadsTests.{simple_reads}

@@ -1,5 +1,5 @@
 -- All tests of a part, negated or not, as predicates.
-use Rattle.std.proofs.Common.{refl, ℕ, Bool, true, false, cond, List, [], ◌∷◌, ◌++◌, map, Option, codes}
+use Rattle.std.proofs.Common.{ℕ, Bool, true, false, cond, List, [], ◌∷◌, ◌++◌, map, Option, codes}
 use Rattle.std.specs.Char.{to_ascii_lowercase}
 use Rattle.doc_model.specs.declared.Axis.TheVariants as axis
 use Rattle.doc_model.specs.declared.NodeTest.TheVariants as node

@@ -78,24 +78,24 @@ pub call_two : {x y : Expr} {s u : Shape} (h : Func) → Typed x s → Typed y u
     → Typed (e.Call h (x ∷ y ∷ [])) (function_shape h)
 call_two {x} {y} {s} h a b q = record {
   is =
-  call_typing h (x ∷ y ∷ []) ∙ ap (λ t. expr_typing (open_.Call h (t ∷ typing y ∷ []))) a.is
-  ∙ ap (λ t. expr_typing (open_.Call h (typed s ∷ t ∷ []))) b.is ∙ q;
+      call_typing h (x ∷ y ∷ []) ∙ ap (λ t. expr_typing (open_.Call h (t ∷ typing y ∷ []))) a.is
+      ∙ ap (λ t. expr_typing (open_.Call h (typed s ∷ t ∷ []))) b.is ∙ q;
 }
 
 pub call_three : {x y z : Expr} {s u v : Shape} (h : Func) → Typed x s → Typed y u → Typed z v → expr_typing (open_.Call h (typed s ∷ typed u ∷ typed v ∷ [])) ≡ typed (function_shape h)
     → Typed (e.Call h (x ∷ y ∷ z ∷ [])) (function_shape h)
 call_three {x} {y} {z} {s} {u} h a b c q = record {
   is =
-  call_typing h (x ∷ y ∷ z ∷ []) ∙ ap (λ t. expr_typing (open_.Call h (t ∷ typing y ∷ typing z ∷ []))) a.is
-  ∙ ap (λ t. expr_typing (open_.Call h (typed s ∷ t ∷ typing z ∷ []))) b.is
-  ∙ ap (λ t. expr_typing (open_.Call h (typed s ∷ typed u ∷ t ∷ []))) c.is ∙ q;
+      call_typing h (x ∷ y ∷ z ∷ []) ∙ ap (λ t. expr_typing (open_.Call h (t ∷ typing y ∷ typing z ∷ []))) a.is
+      ∙ ap (λ t. expr_typing (open_.Call h (typed s ∷ t ∷ typing z ∷ []))) b.is
+      ∙ ap (λ t. expr_typing (open_.Call h (typed s ∷ typed u ∷ t ∷ []))) c.is ∙ q;
 }
 
 pub joins_typed : {x y : Expr} {s u : Shape} (i : Infix) → Typed x s → Typed y u → Typed (joins i x y) (infix_shape i)
 joins_typed {x} {y} i a b = record {
   is =
-  joins_typing i x y ∙ ap (λ (t : Typing). record { shape = infix_shape i; right = t.right && ((typing y).right && true) }) a.is
-  ∙ ap (λ (t : Typing). record { shape = infix_shape i; right = t.right && true }) b.is;
+      joins_typing i x y ∙ ap (λ (t : Typing). record { shape = infix_shape i; right = t.right && ((typing y).right && true) }) a.is
+      ∙ ap (λ (t : Typing). record { shape = infix_shape i; right = t.right && true }) b.is;
 }
 
 -- ---- predicates that are typed right

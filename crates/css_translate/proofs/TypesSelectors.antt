@@ -1,5 +1,5 @@
 -- The types of the expressions of selectors and lists.
-use Rattle.std.proofs.Common.{◌≡◌, refl, sym, ◌∙◌, ap, ℕ, Bool, true, ◌&&◌, List, [], ◌∷◌, ◌++◌, map, Option, Some, None}
+use Rattle.std.proofs.Common.{◌≡◌, refl, ◌∙◌, ap, ℕ, true, ◌&&◌, List, [], ◌∷◌, ◌++◌, map, Option, Some, None}
 use Rattle.std.specs.Prelude.{pos}
 use Rattle.std.specs.List.{list_all}
 use Rattle.doc_model.specs.declared.Axis.TheVariants as axis
@@ -14,12 +14,11 @@ use Rattle.css_meaning.specs.declared.selector.Tail.{Tail}
 use Rattle.css_meaning.specs.declared.selector.Tail.TheVariants as tail
 use Rattle.css_meaning.specs.Names.{folded}
 use Rattle.xpath_values.specs.declared.value.Shape.TheVariants as shape
-use Rattle.xpath_parser.specs.declared.expression.Expr.{Expr}
 use Rattle.xpath_parser.specs.Shapes.{Typing, typing, shape_of, is_well_typed, is_nodes}
 use Rattle.css_translate.specs.Expression.{part_step, link_test, link_brackets, axis_of, next_brackets, tail_steps, selector_steps, selector_expression, expression, united}
 use Rattle.css_translate.specs.Predicates.{simple_predicates, test_of_name}
 use Rattle.css_translate.proofs.Typed.{step_right, path_typing}
-use Rattle.css_translate.proofs.TypesPieces.{Typed, typed, AllRight, union_typing, number_typed, no_expression, front, one, join, all_of, step_typed}
+use Rattle.css_translate.proofs.TypesPieces.{Typed, AllRight, union_typing, number_typed, no_expression, front, one, join, all_of, step_typed}
 use Rattle.css_translate.proofs.TypesTests.{of_name_right, name_right, elements_typed, simple_right}
 
 next_right : (d : Dialect) (el : Option (List ℕ)) → AllRight (next_brackets d el)

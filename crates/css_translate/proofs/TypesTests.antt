@@ -1,5 +1,5 @@
 -- The types of the predicates of all tests.
-use Rattle.std.proofs.Common.{◌≡◌, refl, sym, ◌∙◌, ap, ℕ, suc, ◌-◌, Bool, true, false, ◌&&◌, ◌||◌, cond, List, [], ◌∷◌, ◌++◌, map, length, Option, Some, None, codes, arith}
+use Rattle.std.proofs.Common.{◌≡◌, refl, ◌∙◌, ap, ℕ, suc, ◌-◌, Bool, true, false, ◌&&◌, ◌||◌, cond, List, [], ◌∷◌, ◌++◌, map, length, Option, Some, None, codes, arith}
 use Rattle.std.specs.Prelude.{ℤ, pos, nat_le}
 use Rattle.std.specs.Char.{to_ascii_lowercase}
 use Rattle.std.specs.List.{list_all, list_any}
@@ -28,13 +28,13 @@ use Rattle.xpath_parser.specs.declared.expression.Expr.{Expr}
 use Rattle.xpath_parser.specs.declared.expression.Expr.TheVariants as e
 use Rattle.xpath_parser.specs.declared.expression.Func.TheVariants as f
 use Rattle.xpath_parser.specs.declared.expression.Infix.TheVariants as infix_of
-use Rattle.xpath_parser.specs.Shapes.{Typing, typing, is_nodes}
+use Rattle.xpath_parser.specs.Shapes.{Typing, typing}
 use Rattle.css_translate.specs.Conditions.{Condition, never, exactly, at_least, at_most, every, conditions}
 use Rattle.css_translate.specs.Literals.{Quoted, literal_parts}
 use Rattle.css_translate.specs.Names.{is_plain}
 use Rattle.css_translate.specs.Predicates as x
 use Rattle.css_translate.specs.Predicates.{node_test, name_brackets, predicates_of_name, test_of_name, literal_of}
-use Rattle.css_translate.proofs.TypesPieces.{Typed, typed, AllRight, call_typing, literal_typing, literal_typed, number_typed, call_none, call_one, call_two, call_three, joins_typed, no_expression, front, one, join, each_one, or_typed, and_typed, path_typed}
+use Rattle.css_translate.proofs.TypesPieces.{Typed, AllRight, call_typing, literal_typing, literal_typed, number_typed, call_none, call_one, call_two, call_three, joins_typed, no_expression, front, one, join, each_one, or_typed, and_typed, path_typed}
 
 -- ---- literals
 
@@ -51,10 +51,10 @@ literal_by [] = literal_typed []
 literal_by (q ∷ []) = literal_typed q.content
 literal_by (q ∷ (r ∷ rs)) = record {
   is =
-  call_typing f.Concat (map (λ s. e.Literal s.content) (q ∷ (r ∷ rs)))
-  ∙ ap (λ b. record { shape = shape.Str; right = b && list_all (λ t. t.right && true) (map typing (map (λ s. e.Literal s.content) (q ∷ (r ∷ rs)))) })
-  (at_least_two (length (map typing (map (λ s. e.Literal s.content) rs))))
-  ∙ ap (λ b. record { shape = shape.Str; right = b }) (all_literals (q ∷ (r ∷ rs)));
+      call_typing f.Concat (map (λ s. e.Literal s.content) (q ∷ (r ∷ rs)))
+      ∙ ap (λ b. record { shape = shape.Str; right = b && list_all (λ t. t.right && true) (map typing (map (λ s. e.Literal s.content) (q ∷ (r ∷ rs)))) })
+      (at_least_two (length (map typing (map (λ s. e.Literal s.content) rs))))
+      ∙ ap (λ b. record { shape = shape.Str; right = b }) (all_literals (q ∷ (r ∷ rs)));
 }
 
 pub text_typed : (v : List ℕ) → Typed (x.literal v) shape.Str
