@@ -1,3 +1,4 @@
+pub mod KeepsAll
 pub mod Links
 pub mod LinksNext
 pub mod LiteralBytes
@@ -27,8 +28,19 @@ pub mod PlainNames
 pub mod Pushes
 pub mod ReadBack
 pub mod Readings
+pub mod ReadsAttributes
+pub mod ReadsNames
+pub mod ReadsPieces
+pub mod ReadsPositions
+pub mod ReadsPseudo
+pub mod ReadsSelectors
+pub mod ReadsTests
 pub mod Rooms
 pub mod Spelling
+pub mod TemplateTerms
 pub mod Theorem
 pub mod Typed
+pub mod TypesPieces
+pub mod TypesSelectors
+pub mod TypesTests
 mod Worked

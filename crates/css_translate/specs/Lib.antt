@@ -9,3 +9,4 @@ pub mod Printed
 pub mod Promise
 pub mod Runs
 pub mod Simples
+pub mod Texts
