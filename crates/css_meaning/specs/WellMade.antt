@@ -17,17 +17,30 @@ use Rattle.css_meaning.specs.Specificity.{size_of}
 -- there is nothing to compare with where it is only asked whether the attribute exists
 abbrev pub FitsOp : Op → List ℕ → Type 0
 FitsOp op.Exists v = v ≡ []
-FitsOp _ v = Unit
+FitsOp op.Equals v = Unit
+FitsOp op.Word v = Unit
+FitsOp op.Dash v = Unit
+FitsOp op.Prefix v = Unit
+FitsOp op.Suffix v = Unit
+FitsOp op.Substring v = Unit
 
 -- a position among those of its name needs a name
 abbrev pub FitsKind : Option (List ℕ) → Nth → Type 0
 FitsKind element nth.OfType = IsSome element
 FitsKind element nth.LastOfType = IsSome element
-FitsKind element _ = Unit
+FitsKind element nth.Child = Unit
+FitsKind element nth.LastChild = Unit
 
 abbrev pub FitsPseudo : Option (List ℕ) → Pseudo → Type 0
 FitsPseudo element pseudo.OnlyOfType = IsSome element
-FitsPseudo element _ = Unit
+FitsPseudo element pseudo.OnlyChild = Unit
+FitsPseudo element pseudo.Empty = Unit
+FitsPseudo element pseudo.Root = Unit
+FitsPseudo element pseudo.Never = Unit
+FitsPseudo element pseudo.Link = Unit
+FitsPseudo element pseudo.Checked = Unit
+FitsPseudo element pseudo.Enabled = Unit
+FitsPseudo element pseudo.Disabled = Unit
 
 -- a number of `an+b` is at most 1,000,000 in size
 abbrev pub IsSmall : ℤ → Type 0
@@ -39,7 +52,10 @@ FitsTest element negated (test.Element n) = negated ≡ true
 FitsTest element negated (test.Attr name o v) = FitsOp o v
 FitsTest element negated (test.Nth kind a b) = IsSmall a × IsSmall b × FitsKind element kind
 FitsTest element negated (test.Pseudo p) = FitsPseudo element p
-FitsTest element negated _ = Unit
+FitsTest element negated (test.Id x) = Unit
+FitsTest element negated (test.Class x) = Unit
+FitsTest element negated (test.Contains x) = Unit
+FitsTest element negated (test.Lang x) = Unit
 
 abbrev pub IsPart : Part → Type 0
 IsPart p = All (λ x. FitsTest p.element x.negated x.test) p.simples

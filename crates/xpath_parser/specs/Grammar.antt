@@ -39,10 +39,30 @@ tier_of t.Or = 8
 tier_of t.CloseRound = 9
 tier_of t.CloseSquare = 9
 tier_of t.Comma = 9
-tier_of _ = 0
+tier_of t.OpenRound = 0
+tier_of t.OpenSquare = 0
+tier_of t.Dot = 0
+tier_of t.DotDot = 0
+tier_of t.At = 0
+tier_of t.DoubleColon = 0
+tier_of t.Slash = 0
+tier_of t.DoubleSlash = 0
+tier_of t.AnyName = 0
+tier_of (t.Name n) = 0
+tier_of t.Prefixed = 0
+tier_of (t.Axis a) = 0
+tier_of (t.NodeType n) = 0
+tier_of (t.Function g) = 0
+tier_of t.UnknownFunction = 0
+tier_of (t.Literal s) = 0
+tier_of (t.Number n) = 0
+tier_of t.Fraction = 0
+tier_of t.TooLarge = 0
+tier_of t.Variable = 0
+tier_of t.Unknown = 0
 
 -- The operator that a term of the tiers 3 to 6 stands for. `div` is refused, so nothing rests on what stands for it here, and
--- no other term joins two operands of these tiers.
+-- nothing on the other terms, which join no operands of these tiers.
 abbrev pub operator : Term → Infix
 operator t.Times = infix_of.Mul
 operator t.Mod = infix_of.Mod
@@ -54,7 +74,34 @@ operator t.Greater = infix_of.Compare compare.Greater
 operator t.GreaterEqual = infix_of.Compare compare.GreaterEqual
 operator t.Equal = infix_of.Compare compare.Equal
 operator t.Unequal = infix_of.Compare compare.Unequal
-operator _ = infix_of.Mod
+operator t.OpenRound = infix_of.Mod
+operator t.CloseRound = infix_of.Mod
+operator t.OpenSquare = infix_of.Mod
+operator t.CloseSquare = infix_of.Mod
+operator t.Dot = infix_of.Mod
+operator t.DotDot = infix_of.Mod
+operator t.At = infix_of.Mod
+operator t.Comma = infix_of.Mod
+operator t.DoubleColon = infix_of.Mod
+operator t.Slash = infix_of.Mod
+operator t.DoubleSlash = infix_of.Mod
+operator t.Bar = infix_of.Mod
+operator t.Or = infix_of.Mod
+operator t.And = infix_of.Mod
+operator t.Div = infix_of.Mod
+operator t.AnyName = infix_of.Mod
+operator (t.Name n) = infix_of.Mod
+operator t.Prefixed = infix_of.Mod
+operator (t.Axis a) = infix_of.Mod
+operator (t.NodeType n) = infix_of.Mod
+operator (t.Function g) = infix_of.Mod
+operator t.UnknownFunction = infix_of.Mod
+operator (t.Literal s) = infix_of.Mod
+operator (t.Number n) = infix_of.Mod
+operator t.Fraction = infix_of.Mod
+operator t.TooLarge = infix_of.Mod
+operator t.Variable = infix_of.Mod
+operator t.Unknown = infix_of.Mod
 
 abbrev pub Operands : Type 0
 Operands = List (Term × Expr)

@@ -1,7 +1,6 @@
 ghost use Rattle.xpath_parser.specs.Laws.{FoundExactly, OneExpression, OneFault, OneReading, ReadOrRefused};
 
-/// The grammar of XPath 1.0 reads a list of terms as at most one expression: at an operand's place
-/// `-` is a sign, and each other operator outside brackets has one place in one level.
+/// The grammar of XPath 1.0 reads a list of terms as at most one expression.
 pub fn one_reading()
     ensures { OneReading }
 {}
