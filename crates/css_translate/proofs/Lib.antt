@@ -30,6 +30,7 @@ pub mod Readings
 pub mod Rooms
 pub mod Spelling
 pub mod TemplateTerms
+pub mod SpellFixed
 pub mod Theorem
 pub mod Typed
 mod Worked
