@@ -31,6 +31,9 @@ pub mod Rooms
 pub mod Spelling
 pub mod TemplateTerms
 pub mod SpellFixed
+pub mod SpellLiterals
+pub mod SpellNames
+pub mod SpellNumbers
 pub mod Theorem
 pub mod Typed
 mod Worked

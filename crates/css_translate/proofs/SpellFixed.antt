@@ -1,5 +1,5 @@
 -- Pieces of a printed text, one in front of the other: those that stand in every text are read byte by byte.
-use Rattle.std.proofs.Common.{◌≡◌, refl, sym, ◌∙◌, ap, subst, ℕ, zero, suc, ◌+◌, ◌≤◌, Bool, true, false, ◌&&◌, ◌||◌, cond, List, [], ◌∷◌, ◌++◌, length, Option, Some, None, codes, append_assoc, arith, ◌==◌, length-append}
+use Rattle.std.proofs.Common.{◌≡◌, refl, sym, ◌∙◌, ap, subst, ℕ, zero, suc, ◌+◌, ◌≤◌, Bool, true, false, ◌&&◌, ◌||◌, cond, List, [], ◌∷◌, ◌++◌, length, Option, Some, None, codes, append_assoc, arith, ◌==◌, length-append, inl, inr}
 use Rattle.std.specs.Prelude.{not}
 use Rattle.std.specs.List.{list_any}
 use Rattle.std.specs.Str.{chars}
@@ -7,11 +7,11 @@ use Rattle.std.proofs.lemmas.Bool.{and_parts, cases_Bool, not-true}
 use Rattle.xpath_lexer.specs.declared.token.XKind.{XKind}
 use Rattle.xpath_lexer.specs.declared.token.XKind.TheVariants as k
 use Rattle.text_base.specs.Text.{is_space4}
-use Rattle.xpath_lexer.specs.Tokens.{Text, Lexeme, Begun, token, is_name_byte, Spells, ends, space, next}
+use Rattle.xpath_lexer.specs.Tokens.{Text, Lexeme, Begun, token, is_name_start, is_name_byte, span, with_star, ends_with, Spells, ends, space, next}
 use Rattle.xpath_parser.specs.declared.term.Term.{Term}
 use Rattle.xpath_parser.specs.declared.term.Term.TheVariants as t
 use Rattle.xpath_parser.specs.Reading.{most_bytes}
-use Rattle.xpath_parser.specs.Terms.{term_of, terms_after, next_kind, name_term, is_refused, is_operand, axis_names, function_names, node_type_names, operator_names}
+use Rattle.xpath_parser.specs.Terms.{term_of, terms_after, next_kind, name_term, is_refused, is_operand}
 use Rattle.css_translate.proofs.Rooms.{Fits, OnRoom, room_after}
 use Rattle.css_translate.proofs.Spelling.{Spoken, Behind, Apart}
 
@@ -57,6 +57,39 @@ abbrev pub ◌⨾◌ : {r : ℕ} {a : Bool} {r' : ℕ} {a' : Bool} {r'' : ℕ} {
 
 -- ---- tokens from the front
 
+-- a token, found with one byte behind a name
+abbrev name_end : Text → Text → Begun
+name_end n [] = ends_with k.Name n []
+name_end n (b ∷ bs) = end_by (b == 58)
+  where
+    end_by : Bool → Begun
+    end_by true = with_star n (b ∷ bs)
+    end_by false = ends_with k.Name n (b ∷ bs)
+
+abbrev begun_by : Bool → ℕ → Text → Begun
+begun_by true b bs = let s = span is_name_byte bs in name_end (b ∷ s.0) s.1
+begun_by false b bs = token (b ∷ bs)
+
+abbrev pub front : Text → Begun
+front [] = None
+front (b ∷ bs) = begun_by (is_name_start b) b bs
+
+same_end : (n s : Text) → name_end n s ≡ with_star n s
+same_end n [] = refl
+same_end n (b ∷ bs) = elim (cases_Bool (b == 58)) [ inl e ↦ rw e refl | inr e ↦ after_name b bs e ]
+  where
+    after_name : (b : ℕ) (bs : Text) → (b == 58) ≡ false → name_end n (b ∷ bs) ≡ with_star n (b ∷ bs)
+    after_name b [] e = rw e refl
+    after_name b (c ∷ bs) e = rw e refl
+
+same_begun : (v : Bool) (b : ℕ) (bs : Text) → is_name_start b ≡ v → token (b ∷ bs) ≡ begun_by v b bs
+same_begun true b bs e = rw e (let s = span is_name_byte bs in sym (same_end (b ∷ s.0) s.1))
+same_begun false b bs e = refl
+
+front_token : (x : Text) → token x ≡ front x
+front_token [] = refl
+front_token (b ∷ bs) = same_begun (is_name_start b) b bs refl
+
 abbrev Scanned : Type 0
 Scanned = List Lexeme × Text
 
@@ -66,7 +99,7 @@ take_token go x (Some p) = let s = go p.1 in (p.0 ∷ s.0, s.1)
 
 abbrev take_unit : (Text → Scanned) → ℕ → Text → Bool → Scanned
 take_unit go b bs true = go bs
-take_unit go b bs false = take_token go (b ∷ bs) (token (b ∷ bs))
+take_unit go b bs false = take_token go (b ∷ bs) (front (b ∷ bs))
 
 -- so many bytes of white space and tokens from the front, and what is left
 abbrev pub scan : ℕ → Text → List Lexeme × Text
@@ -83,7 +116,7 @@ next_units go bs false (Some p) = suc (go p.1)
 abbrev pub units : ℕ → Text → ℕ
 units zero x = 0
 units (suc n) [] = 0
-units (suc n) (b ∷ bs) = next_units (units n) bs (is_space4 b) (token (b ∷ bs))
+units (suc n) (b ∷ bs) = next_units (units n) bs (is_space4 b) (front (b ∷ bs))
 
 abbrev IsScan : (Text → Scanned) → Type 0
 IsScan go = (y : Text) (ws : List Lexeme) → Spells (go y).1 ws → Spells y ((go y).0 ++ ws)
@@ -94,7 +127,7 @@ token_scanned go ih x (Some p) e ws s = next e (ih p.1 ws s)
 
 unit_scanned : (go : Text → Scanned) → IsScan go → (b : ℕ) (bs : Text) (v : Bool) → is_space4 b ≡ v → (ws : List Lexeme) → Spells (take_unit go b bs v).1 ws → Spells (b ∷ bs) ((take_unit go b bs v).0 ++ ws)
 unit_scanned go ih b bs true e ws s = space e (ih bs ws s)
-unit_scanned go ih b bs false e ws s = token_scanned go ih (b ∷ bs) (token (b ∷ bs)) refl ws s
+unit_scanned go ih b bs false e ws s = token_scanned go ih (b ∷ bs) (front (b ∷ bs)) (front_token (b ∷ bs)) ws s
 
 scanned : (n : ℕ) → IsScan (scan n)
 scanned zero x ws s = s
@@ -262,16 +295,18 @@ fixed_puts r after x f h rest us short b =
 abbrev pub fix : {r : ℕ} {after : Bool} (x : Text) → IsFixed x → is_ready after r x (lexemes_of x) ≡ true → Piece r after (room_left (lexemes_of x) r) (state_after after (lexemes_of x))
 fix {r = r} {after = after} x f h = record { text = x; terms = in_front after (lexemes_of x) []; puts = fixed_puts r after x f h }
 
--- ---- a trial
+-- ---- choices, and other words for the same terms
 
-abbrev trial : (room : ℕ) → Piece (suc (suc room)) true (suc (suc room)) true
-unfolding axis_names function_names node_type_names operator_names
-trial room = fix (codes "[@lang and contains(self::*") (λ rest. refl) refl ⨾ fix (codes ", ") (λ rest. refl) refl ⨾ fix (codes "'x')]") (λ rest. refl) refl
+pub choose_puts : (r : ℕ) (a : Bool) (r' : ℕ) (a' : Bool) (b : Bool) (x y : Text) (ts us : List Term) → (b ≡ true → Puts r a r' a' x ts) → (b ≡ false → Puts r a r' a' y us)
+    → Puts r a r' a' (cond b x y) (cond b ts us)
+choose_puts r a r' a' true x y ts us f g = f refl
+choose_puts r a r' a' false x y ts us f g = g refl
 
-abbrev trial2 : (room : ℕ) → Piece (suc (suc (suc (suc (suc room))))) true (suc (suc room)) false
-unfolding axis_names function_names node_type_names operator_names
-trial2 room = fix (codes "[ancestor-or-self::*[@lang][1][starts-with(concat(translate(@lang, 'ABCDEFGHIJKLMNOPQRSTUVWXYZ', 'abcdefghijklmnopqrstuvwxyz'), '-'), ") (λ rest. refl) refl
+pub same_terms : (r : ℕ) (a : Bool) (r' : ℕ) (a' : Bool) (x : Text) (ts us : List Term) → ts ≡ us → Puts r a r' a' x ts → Puts r a r' a' x us
+same_terms r a r' a' x ts us e p = subst (Puts r a r' a' x) e p
 
-trial_terms : (room : ℕ) (at : List Term) → (trial room).terms ++ at ≡ t.OpenSquare ∷ at
-unfolding axis_names function_names node_type_names operator_names
-trial_terms room at = refl
+pub same_text : (r : ℕ) (a : Bool) (r' : ℕ) (a' : Bool) (x y : Text) (ts : List Term) → x ≡ y → Puts r a r' a' x ts → Puts r a r' a' y ts
+same_text r a r' a' x y ts e p = let P : Text → Type 0 = λ z. Puts r a r' a' z ts in subst P e p
+
+pub nothing_puts : (r : ℕ) (a : Bool) → Puts r a r a [] []
+nothing_puts r a rest us h b = b
