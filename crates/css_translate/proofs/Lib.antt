@@ -34,6 +34,7 @@ pub mod SpellFixed
 pub mod SpellLiterals
 pub mod SpellNames
 pub mod SpellNumbers
+pub mod SpellOps
 pub mod Theorem
 pub mod Typed
 mod Worked

@@ -310,3 +310,7 @@ same_text r a r' a' x y ts e p = let P : Text → Type 0 = λ z. Puts r a r' a' 
 
 pub nothing_puts : (r : ℕ) (a : Bool) → Puts r a r a [] []
 nothing_puts r a rest us h b = b
+
+-- the piece with other words for its terms
+pub said : {r : ℕ} {a : Bool} {r' : ℕ} {a' : Bool} (p : Piece r a r' a') (us : List Term) → p.terms ≡ us → Puts r a r' a' p.text us
+said {r = r} {a = a} {r' = r'} {a' = a'} p us e = subst (Puts r a r' a' p.text) e p.puts
