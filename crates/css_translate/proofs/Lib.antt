@@ -30,11 +30,14 @@ pub mod Readings
 pub mod Rooms
 pub mod Spelling
 pub mod TemplateTerms
+pub mod SpellConditions
 pub mod SpellFixed
 pub mod SpellLiterals
 pub mod SpellNames
 pub mod SpellNumbers
 pub mod SpellOps
+pub mod SpellPseudo
+pub mod SpellValues
 pub mod Theorem
 pub mod Typed
 mod Worked

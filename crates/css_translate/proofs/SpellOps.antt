@@ -1,5 +1,6 @@
 -- The tests on an attribute's value in printed texts.
-use Rattle.std.proofs.Common.{◌≡◌, refl, ℕ, suc, Bool, true, false, List, [], ◌∷◌, ◌++◌, codes, append_assoc}
+use Rattle.std.proofs.Common.{◌≡◌, refl, ℕ, suc, ◌≤◌, Bool, true, false, List, [], ◌∷◌, ◌++◌, length, length-append, codes, append_assoc, arith}
+use Rattle.std.specs.Fmt.{decimal}
 use Rattle.std.specs.Str.{chars}
 use Rattle.xpath_lexer.specs.Tokens.{Text}
 use Rattle.xpath_parser.specs.declared.expression.Func.TheVariants as f
@@ -55,4 +56,57 @@ module _ (attr lit lit2 : Text) (at l l2 : List Term) (attr_puts : (r : ℕ) →
       ⨾ fix (codes "), ' '), ") (λ rest. refl) refl ⨾ literal ⨾ fix (codes ")]") (λ rest. refl) refl in
       said all (terms.in_square (at ++ (t.And ∷ terms.call f.Contains
       (terms.call f.Concat (terms.literal (codes " ") ++ (t.Comma ∷ (terms.call f.NormalizeSpace at ++ (t.Comma ∷ terms.literal (codes " "))))) ++ (t.Comma ∷ l)))))
+      (simp append_assoc refl)
+
+  pub dash_puts : (r : ℕ) → Puts (six r) true (six r) true
+      (codes "[" ++ (attr ++ (codes " and (" ++ (attr ++ (codes " = " ++ (lit ++ (codes " or starts-with(" ++ (attr ++ (codes ", " ++ (lit2 ++ codes "))]"))))))))))
+      (terms.in_square (at ++ (t.And ∷ terms.in_round (at ++ (t.Equal ∷ (l ++ (t.Or ∷ terms.call f.StartsWith (at ++ (t.Comma ∷ l2)))))))))
+  unfolding axis_names function_names node_type_names operator_names chars
+  dash_puts r =
+      let all : Piece (six r) true (six r) true =
+      fix (codes "[") (λ rest. refl) refl ⨾ attribute ⨾ fix (codes " and (") (λ rest. refl) refl ⨾ attribute ⨾ fix (codes " = ") (λ rest. refl) refl ⨾ literal
+      ⨾ fix (codes " or starts-with(") (λ rest. refl) refl ⨾ attribute ⨾ fix (codes ", ") (λ rest. refl) refl ⨾ literal2 ⨾ fix (codes "))]") (λ rest. refl) refl in
+      said all (terms.in_square (at ++ (t.And ∷ terms.in_round (at ++ (t.Equal ∷ (l ++ (t.Or ∷ terms.call f.StartsWith (at ++ (t.Comma ∷ l2)))))))))
+      (simp append_assoc refl)
+
+  pub prefix_puts : (r : ℕ) → Puts (six r) true (six r) true (codes "[" ++ (attr ++ (codes " and starts-with(" ++ (attr ++ (codes ", " ++ (lit ++ codes ")]"))))))
+      (terms.in_square (at ++ (t.And ∷ terms.call f.StartsWith (at ++ (t.Comma ∷ l)))))
+  unfolding axis_names function_names node_type_names operator_names chars
+  prefix_puts r =
+      let all : Piece (six r) true (six r) true =
+      fix (codes "[") (λ rest. refl) refl ⨾ attribute ⨾ fix (codes " and starts-with(") (λ rest. refl) refl ⨾ attribute ⨾ fix (codes ", ") (λ rest. refl) refl ⨾ literal
+      ⨾ fix (codes ")]") (λ rest. refl) refl in
+      said all (terms.in_square (at ++ (t.And ∷ terms.call f.StartsWith (at ++ (t.Comma ∷ l))))) (simp append_assoc refl)
+
+  pub substring_puts : (r : ℕ) → Puts (six r) true (six r) true (codes "[" ++ (attr ++ (codes " and contains(" ++ (attr ++ (codes ", " ++ (lit ++ codes ")]"))))))
+      (terms.in_square (at ++ (t.And ∷ terms.call f.Contains (at ++ (t.Comma ∷ l)))))
+  unfolding axis_names function_names node_type_names operator_names chars
+  substring_puts r =
+      let all : Piece (six r) true (six r) true =
+      fix (codes "[") (λ rest. refl) refl ⨾ attribute ⨾ fix (codes " and contains(") (λ rest. refl) refl ⨾ attribute ⨾ fix (codes ", ") (λ rest. refl) refl ⨾ literal
+      ⨾ fix (codes ")]") (λ rest. refl) refl in
+      said all (terms.in_square (at ++ (t.And ∷ terms.call f.Contains (at ++ (t.Comma ∷ l))))) (simp append_assoc refl)
+
+  -- the number is no more than the literal is long
+  counted_end : (n : ℕ) → n ≤ length lit → (r : ℕ)
+      → Puts (suc (suc r)) false (suc (suc (suc (suc r)))) true (decimal n ++ (codes ") = " ++ (lit ++ codes "]"))) (terms.number n ∷ t.CloseRound ∷ t.Equal ∷ (l ++ (t.CloseSquare ∷ [])))
+  unfolding axis_names function_names node_type_names operator_names chars
+  counted_end n long r rest us short b =
+      let small : n ≤ 9007199254740991 =
+      omega (arith, short, long, length-append (decimal n ++ (codes ") = " ++ (lit ++ codes "]"))) rest, length-append (decimal n) (codes ") = " ++ (lit ++ codes "]")), length-append lit (codes "]")) in
+      let count : Piece (suc (suc r)) false (suc (suc r)) true = record { text = decimal n; terms = terms.number n ∷ []; puts = number_puts (suc (suc r)) n small } in
+      let all : Piece (suc (suc r)) false (suc (suc (suc (suc r)))) true = count ⨾ fix (codes ") = ") (λ rest. refl) refl ⨾ literal ⨾ fix (codes "]") (λ rest. refl) refl in
+      all.puts rest us short b
+
+  pub suffix_puts : (n : ℕ) → n ≤ length lit → (r : ℕ) → Puts (six r) true (six r) true
+      (codes "[" ++ (attr ++ (codes " and substring(" ++ (attr ++ (codes ", string-length(" ++ (attr ++ (codes ") - " ++ (decimal n ++ (codes ") = " ++ (lit ++ codes "]"))))))))))
+      (terms.in_square (at ++ (t.And ∷ (terms.call f.Substring (at ++ (t.Comma ∷ (terms.call f.StringLength at ++ (t.Minus ∷ terms.number n ∷ [])))) ++ (t.Equal ∷ l)))))
+  unfolding axis_names function_names node_type_names operator_names chars
+  suffix_puts n long r =
+      let end : Piece (suc (suc (suc (suc r)))) false (six r) true =
+      record { text = decimal n ++ (codes ") = " ++ (lit ++ codes "]")); terms = terms.number n ∷ t.CloseRound ∷ t.Equal ∷ (l ++ (t.CloseSquare ∷ [])); puts = counted_end n long (suc (suc r)) } in
+      let all : Piece (six r) true (six r) true =
+      fix (codes "[") (λ rest. refl) refl ⨾ attribute ⨾ fix (codes " and substring(") (λ rest. refl) refl ⨾ attribute ⨾ fix (codes ", string-length(") (λ rest. refl) refl ⨾ attribute
+      ⨾ fix (codes ") - ") (λ rest. refl) refl ⨾ end in
+      said all (terms.in_square (at ++ (t.And ∷ (terms.call f.Substring (at ++ (t.Comma ∷ (terms.call f.StringLength at ++ (t.Minus ∷ terms.number n ∷ [])))) ++ (t.Equal ∷ l)))))
       (simp append_assoc refl)
