@@ -32,11 +32,13 @@ pub mod Spelling
 pub mod TemplateTerms
 pub mod SpellConditions
 pub mod SpellFixed
+pub mod SpellLists
 pub mod SpellLiterals
 pub mod SpellNames
 pub mod SpellNumbers
 pub mod SpellOps
 pub mod SpellPseudo
+pub mod SpellTests
 pub mod SpellValues
 pub mod Theorem
 pub mod Typed
