@@ -1,10 +1,9 @@
 -- Positions among siblings in printed texts.
-use Rattle.std.proofs.Common.{◌≡◌, refl, ℕ, suc, ◌<◌, ◌≤◌, ◌^◌, Bool, true, false, List, [], ◌∷◌, ◌++◌, codes, append_assoc, Option, arith}
+use Rattle.std.proofs.Common.{refl, ℕ, suc, ◌<◌, ◌^◌, true, false, List, [], ◌∷◌, ◌++◌, codes, append_assoc, Option, arith}
 use Rattle.std.specs.Prelude.{ℤ}
 use Rattle.std.specs.Fmt.{decimal}
 use Rattle.std.specs.List.{flat_map, AllByRecursion}
 use Rattle.std.specs.Str.{chars}
-use Rattle.doc_model.specs.declared.Axis.TheVariants as axis
 use Rattle.css_meaning.specs.declared.selector.Dialect.{Dialect}
 use Rattle.css_meaning.specs.declared.selector.Nth.{Nth}
 use Rattle.css_meaning.specs.declared.selector.Nth.TheVariants as nth

@@ -1,5 +1,5 @@
 -- Pieces of a printed text, one in front of the other: those that stand in every text are read byte by byte.
-use Rattle.std.proofs.Common.{◌≡◌, refl, sym, ◌∙◌, ap, subst, ℕ, zero, suc, ◌+◌, ◌≤◌, Bool, true, false, ◌&&◌, ◌||◌, cond, List, [], ◌∷◌, ◌++◌, length, Option, Some, None, codes, append_assoc, arith, ◌==◌, length-append, inl, inr}
+use Rattle.std.proofs.Common.{◌≡◌, refl, sym, ◌∙◌, ap, subst, ℕ, zero, suc, ◌≤◌, Bool, true, false, ◌&&◌, ◌||◌, cond, List, [], ◌∷◌, ◌++◌, length, Option, Some, None, append_assoc, arith, ◌==◌, length-append, inl, inr}
 use Rattle.std.specs.Prelude.{not}
 use Rattle.std.specs.List.{list_any}
 use Rattle.std.specs.Str.{chars}
@@ -7,13 +7,13 @@ use Rattle.std.proofs.lemmas.Bool.{and_parts, cases_Bool, not-true}
 use Rattle.xpath_lexer.specs.declared.token.XKind.{XKind}
 use Rattle.xpath_lexer.specs.declared.token.XKind.TheVariants as k
 use Rattle.text_base.specs.Text.{is_space4}
-use Rattle.xpath_lexer.specs.Tokens.{Text, Lexeme, Begun, token, is_name_start, is_name_byte, span, with_star, ends_with, Spells, ends, space, next}
+use Rattle.xpath_lexer.specs.Tokens.{Text, Lexeme, Begun, token, is_name_start, is_name_byte, span, with_star, ends_with, Spells, space, next}
 use Rattle.xpath_parser.specs.declared.term.Term.{Term}
 use Rattle.xpath_parser.specs.declared.term.Term.TheVariants as t
 use Rattle.xpath_parser.specs.Reading.{most_bytes}
 use Rattle.xpath_parser.specs.Terms.{term_of, terms_after, next_kind, name_term, is_refused, is_operand}
 use Rattle.css_translate.proofs.Rooms.{Fits, OnRoom, room_after}
-use Rattle.css_translate.proofs.Spelling.{Spoken, Behind, Apart}
+use Rattle.css_translate.proofs.Spelling.{Spoken, Behind}
 
 -- ---- what stands behind a piece
 
@@ -47,7 +47,6 @@ then_puts r a r' a' r'' a'' x y ts us p q rest vs h b =
     (p (y ++ rest) (us ++ vs) long (q rest vs (shorter x (y ++ rest) most_bytes long) b)))
 
 infixr 40 ◌⨾◌
-
 abbrev pub ◌⨾◌ : {r : ℕ} {a : Bool} {r' : ℕ} {a' : Bool} {r'' : ℕ} {a'' : Bool} → Piece r a r' a' → Piece r' a' r'' a'' → Piece r a r'' a''
 ◌⨾◌ {r = r} {a = a} {r' = r'} {a' = a'} {r'' = r''} {a'' = a''} p q = record {
   text = p.text ++ q.text;

@@ -1,12 +1,11 @@
 -- The printed text of every selector list that is well made is spelled by its terms.
-use Rattle.std.proofs.Common.{◌≡◌, refl, sym, ◌∙◌, ap, subst, ℕ, suc, ◌<◌, ◌≤◌, Bool, true, false, cond, List, [], ◌∷◌, ◌++◌, map, length, codes, append-nil, Option, Some, None, ◌==◌, arith, All}
+use Rattle.std.proofs.Common.{◌≡◌, refl, sym, subst, ℕ, suc, ◌<◌, ◌≤◌, Bool, true, false, cond, List, [], ◌∷◌, ◌++◌, map, length, codes, append-nil, Option, Some, None, ◌==◌, arith}
 use Rattle.std.specs.Prelude.{◌≢◌}
 use Rattle.std.specs.List.{flat_map, AllByRecursion, list_all}
 use Rattle.std.specs.Str.{chars}
 use Rattle.std.proofs.lemmas.Bool.{and_parts}
 use Rattle.std.proofs.lemmas.Bool.Decides.{nat_tests}
 use Rattle.std.proofs.lemmas.List.Elements.{recursion_from_All}
-use Rattle.doc_model.specs.declared.Axis.TheVariants as axis
 use Rattle.css_meaning.specs.declared.selector.Dialect.{Dialect}
 use Rattle.css_meaning.specs.declared.selector.Link.{Link}
 use Rattle.css_meaning.specs.declared.selector.Link.TheVariants as link
@@ -26,11 +25,11 @@ use Rattle.xpath_parser.specs.Terms.{axis_names, function_names, node_type_names
 use Rattle.css_translate.specs.Names.{is_plain, is_plain_start, is_plain_char, name_bytes, name_bracket, element_text, attribute_text}
 use Rattle.css_translate.specs.Printed.{next_text, step_text, part_text, tail_text, parts_text, selector_text, joined, printed}
 use Rattle.css_translate.specs.Simples.{simple_text}
-use Rattle.css_translate.specs.Texts.{IsText, IsElementText, IsTestText, IsTailText, IsPartText, IsSelectorText, AreTexts}
+use Rattle.css_translate.specs.Texts.{IsElementText, IsTestText, IsTailText, IsPartText, IsSelectorText, AreTexts}
 use Rattle.css_translate.proofs.Pieces.{NoSlash, slash}
 use Rattle.css_translate.proofs.PlainNames.{plain_bytes}
 use Rattle.css_translate.proofs.Spelling.{Spoken, nothing}
-use Rattle.css_translate.proofs.SpellFixed.{Puts, Piece, ◌⨾◌, fix, said, then_puts, nothing_puts}
+use Rattle.css_translate.proofs.SpellFixed.{Puts, Piece, ◌⨾◌, fix, then_puts, nothing_puts}
 use Rattle.css_translate.proofs.SpellNames.{element_puts, attribute_puts, element_piece}
 use Rattle.css_translate.proofs.SpellTests.{eight, self_puts, simple_puts}
 use Rattle.css_translate.proofs.TemplateTerms as terms

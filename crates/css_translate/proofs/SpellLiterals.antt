@@ -1,21 +1,19 @@
 -- Literals of printed texts, and what they stand for.
-use Rattle.std.proofs.Common.{◌≡◌, refl, sym, ◌∙◌, ap, subst, ℕ, suc, ◌+◌, ◌≤◌, ◌<◌, Bool, true, false, ◌&&◌, ◌||◌, cond, List, [], ◌∷◌, ◌++◌, map, length, length-append, Some, codes, append_assoc, arith, ◌==◌, encode_utf8_all, inl, inr}
+use Rattle.std.proofs.Common.{◌≡◌, refl, sym, ◌∙◌, ap, subst, ℕ, suc, ◌≤◌, ◌<◌, Bool, true, false, ◌&&◌, ◌||◌, cond, List, [], ◌∷◌, ◌++◌, map, length, length-append, Some, codes, append_assoc, arith, ◌==◌, encode_utf8_all, inl, inr}
 use Rattle.std.specs.Prelude.{not}
 use Rattle.std.specs.List.{list_any}
-use Rattle.std.specs.Str.{chars}
-use Rattle.std.proofs.lemmas.Bool.{and_parts, and_from, or_parts, or_cases, eqb-true, not-true, cases_Bool}
+use Rattle.std.proofs.lemmas.Bool.{and_parts, and_from, or_parts, or_cases, eqb-true, not-true}
 use Rattle.std.proofs.lemmas.Str.{chars-encodes}
 use lib.Utf8.{scalar, scalars}
 use Rattle.xpath_lexer.specs.declared.token.XKind.TheVariants as k
 use Rattle.xpath_lexer.specs.Tokens.{Text, lexeme, before_quote, token, next, literal as literal_begun}
-use Rattle.xpath_parser.specs.declared.term.Term.{Term}
 use Rattle.xpath_parser.specs.declared.term.Term.TheVariants as t
 use Rattle.xpath_parser.specs.Terms.{terms_after, axis_names, function_names, node_type_names, operator_names}
 use Rattle.css_translate.specs.Literals.{is_apostrophe, is_double, Quoted, quoted_runs, literal_parts, quoted, listed, shown, literal_text}
 use Rattle.css_translate.specs.Texts.{IsText}
 use Rattle.css_translate.proofs.LiteralBytes.{in_bytes, parts_bytes}
 use Rattle.css_translate.proofs.LiteralParts.{value, has_quote, are_closed, literal_value, literal_closed, two_parts}
-use Rattle.css_translate.proofs.SpellFixed.{Puts, Piece, ◌⨾◌, fix, then_puts}
+use Rattle.css_translate.proofs.SpellFixed.{Puts, Piece, ◌⨾◌, fix}
 use Rattle.css_translate.proofs.TemplateTerms as terms
 
 -- ---- one between its quotes

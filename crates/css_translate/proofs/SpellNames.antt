@@ -1,8 +1,7 @@
 -- The names of elements and attributes in printed texts.
-use Rattle.std.proofs.Common.{◌≡◌, refl, sym, ◌∙◌, ap, ℕ, suc, Bool, true, false, cond, List, [], ◌∷◌, ◌++◌, map, Option, Some, None, codes, arith}
+use Rattle.std.proofs.Common.{◌≡◌, refl, ℕ, suc, true, false, List, [], ◌∷◌, ◌++◌, map, Option, Some, None, codes, arith}
 use Rattle.std.specs.Prelude.{encode_utf8_all}
 use Rattle.std.specs.Char.{to_ascii_lowercase}
-use Rattle.std.specs.Str.{chars}
 use Rattle.std.proofs.lemmas.Bool.{and_parts, and_from}
 use Rattle.std.proofs.lemmas.Bool.Decides.{nat_tests}
 use lib.Utf8.{scalar, scalars}
@@ -10,8 +9,6 @@ use Rattle.doc_model.specs.declared.Axis.TheVariants as axis
 use Rattle.css_meaning.specs.declared.selector.Dialect.{Dialect}
 use Rattle.css_meaning.specs.declared.selector.Dialect.TheVariants.{Generic, Html}
 use Rattle.css_meaning.specs.Names.{folded}
-use Rattle.xpath_lexer.specs.Tokens.{Text}
-use Rattle.xpath_parser.specs.declared.term.Term.{Term}
 use Rattle.xpath_parser.specs.declared.term.Term.TheVariants as t
 use Rattle.xpath_parser.specs.Terms.{axis_names, function_names, node_type_names, operator_names}
 use Rattle.css_translate.specs.Literals.{literal_text}

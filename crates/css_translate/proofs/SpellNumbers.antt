@@ -1,5 +1,5 @@
 -- Whole numbers of printed texts.
-use Rattle.std.proofs.Common.{◌≡◌, refl, sym, ◌∙◌, ap, subst, ℕ, suc, ◌+◌, ◌-◌, ◌*◌, ◌/◌, ◌%◌, ◌≤◌, ◌<◌, ◌^◌, Bool, true, false, ◌&&◌, ◌||◌, cond, List, [], ◌∷◌, ◌++◌, length, length-append, Some, arith, ◌==◌}
+use Rattle.std.proofs.Common.{◌≡◌, refl, ◌∙◌, ap, ℕ, ◌+◌, ◌-◌, ◌*◌, ◌/◌, ◌%◌, ◌≤◌, ◌<◌, ◌^◌, true, false, ◌||◌, [], ◌∷◌, ◌++◌, length, length-append, Some, arith, ◌==◌}
 use Rattle.std.specs.Prelude.{pos, nat_le}
 use Rattle.std.specs.List.{list_any, list_all, fold}
 use Rattle.std.specs.Fmt.{decimal}
@@ -7,11 +7,10 @@ use Rattle.std.proofs.lemmas.Bool.{and_parts, and_from, or_parts, or_from}
 use Rattle.std.proofs.lemmas.Bool.Decides.{nat_tests}
 use Rattle.std.proofs.lemmas.Fmt.{decimal_by_steps}
 use Rattle.xpath_lexer.specs.declared.token.XKind.TheVariants as k
-use Rattle.xpath_lexer.specs.Tokens.{Text, lexeme, is_digit, is_name_start, is_name_byte, span, with_fraction, ends_with, number, token, next}
-use Rattle.xpath_parser.specs.declared.term.Term.{Term}
+use Rattle.xpath_lexer.specs.Tokens.{Text, lexeme, is_digit, is_name_start, is_name_byte, span, with_fraction, ends_with, token, next}
 use Rattle.xpath_parser.specs.declared.term.Term.TheVariants as t
 use Rattle.xpath_parser.specs.Terms.{terms_after, digits_value, number_term, is_operand}
-use Rattle.css_translate.proofs.Spelling.{Apart, Behind}
+use Rattle.css_translate.proofs.Spelling.{Apart}
 use Rattle.css_translate.proofs.SpellFixed.{Puts}
 
 -- ---- the digits

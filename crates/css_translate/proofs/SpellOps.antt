@@ -1,5 +1,5 @@
 -- The tests on an attribute's value in printed texts.
-use Rattle.std.proofs.Common.{◌≡◌, refl, ℕ, suc, ◌≤◌, Bool, true, false, List, [], ◌∷◌, ◌++◌, length, length-append, codes, append_assoc, arith}
+use Rattle.std.proofs.Common.{refl, ℕ, suc, ◌≤◌, true, false, List, [], ◌∷◌, ◌++◌, length, length-append, codes, append_assoc, arith}
 use Rattle.std.specs.Fmt.{decimal}
 use Rattle.std.specs.Str.{chars}
 use Rattle.xpath_lexer.specs.Tokens.{Text}

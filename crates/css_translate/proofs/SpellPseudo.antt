@@ -1,5 +1,5 @@
 -- Pseudo-classes and languages in printed texts.
-use Rattle.std.proofs.Common.{◌≡◌, refl, ℕ, suc, Bool, true, false, List, [], ◌∷◌, ◌++◌, map, codes, append_assoc, Option, arith}
+use Rattle.std.proofs.Common.{refl, ℕ, suc, true, false, List, [], ◌∷◌, ◌++◌, map, codes, append_assoc, Option, arith}
 use Rattle.std.specs.Prelude.{pos, encode_utf8_all}
 use Rattle.std.specs.Char.{to_ascii_lowercase}
 use Rattle.std.specs.Str.{chars}

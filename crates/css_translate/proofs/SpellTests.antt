@@ -1,5 +1,5 @@
 -- The simple selectors of a part in printed texts.
-use Rattle.std.proofs.Common.{◌≡◌, refl, ℕ, suc, Bool, true, false, List, [], ◌∷◌, ◌++◌, codes, append_assoc, Option}
+use Rattle.std.proofs.Common.{refl, ℕ, suc, Bool, true, false, List, ◌∷◌, ◌++◌, codes, append_assoc, Option}
 use Rattle.std.specs.Prelude.{encode_utf8_all}
 use Rattle.std.specs.Str.{chars}
 use Rattle.doc_model.specs.declared.Axis.TheVariants as axis
@@ -17,7 +17,7 @@ use Rattle.xpath_parser.specs.Terms.{axis_names, function_names, node_type_names
 use Rattle.css_translate.specs.Literals.{literal_text}
 use Rattle.css_translate.specs.Names.{element_text, attribute_text}
 use Rattle.css_translate.specs.Simples.{test_text, negated_text, simple_text}
-use Rattle.css_translate.specs.Texts.{IsText, IsElementText, IsTestText}
+use Rattle.css_translate.specs.Texts.{IsElementText, IsTestText}
 use Rattle.css_translate.proofs.SpellConditions.{nth_puts}
 use Rattle.css_translate.proofs.SpellFixed.{Puts, Piece, ◌⨾◌, fix, said, choose_puts}
 use Rattle.css_translate.proofs.SpellLiterals.{literal_puts}

@@ -1,5 +1,5 @@
 -- The literals of values with more around them, and all tests on an attribute's value.
-use Rattle.std.proofs.Common.{◌≡◌, refl, sym, ◌∙◌, ap, subst, ℕ, suc, ◌-◌, ◌≤◌, Bool, true, false, List, [], ◌∷◌, ◌++◌, length, codes, arith}
+use Rattle.std.proofs.Common.{refl, subst, ℕ, suc, ◌-◌, ◌≤◌, true, false, List, [], ◌∷◌, ◌++◌, length, codes, arith}
 use Rattle.std.specs.Prelude.{encode_utf8_all, ◌||◌}
 use Rattle.std.specs.Fmt.{decimal}
 use Rattle.std.specs.List.{list_any}
@@ -15,7 +15,7 @@ use Rattle.xpath_parser.specs.declared.expression.Func.TheVariants as f
 use Rattle.xpath_parser.specs.declared.term.Term.{Term}
 use Rattle.xpath_parser.specs.declared.term.Term.TheVariants as t
 use Rattle.css_translate.specs.Literals.{literal_text}
-use Rattle.css_translate.specs.Simples.{nowhere, word_text, dash_text, prefix_text, suffix_text, substring_text, op_text}
+use Rattle.css_translate.specs.Simples.{nowhere, word_text, prefix_text, suffix_text, substring_text, op_text}
 use Rattle.css_translate.specs.Texts.{IsText}
 use Rattle.css_translate.proofs.SpellFixed.{Puts, choose_puts}
 use Rattle.css_translate.proofs.SpellLiterals.{literal_puts, literal_long}
