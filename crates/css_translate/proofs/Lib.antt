@@ -38,6 +38,16 @@ pub mod ReadsTests
 pub mod Rooms
 pub mod Spelling
 pub mod TemplateTerms
+pub mod SpellConditions
+pub mod SpellFixed
+pub mod SpellLists
+pub mod SpellLiterals
+pub mod SpellNames
+pub mod SpellNumbers
+pub mod SpellOps
+pub mod SpellPseudo
+pub mod SpellTests
+pub mod SpellValues
 pub mod Theorem
 pub mod Typed
 pub mod TypesPieces
