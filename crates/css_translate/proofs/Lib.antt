@@ -1,3 +1,4 @@
+mod Worked
 pub mod KeepsAll
 pub mod Links
 pub mod LinksNext
@@ -7,8 +8,8 @@ pub mod LiteralRuns
 pub mod Means
 pub mod MeansAll
 pub mod MeansAttributes
-pub mod MeansLast
 pub mod MeansLanguage
+pub mod MeansLast
 pub mod MeansLower
 pub mod MeansNames
 pub mod MeansNth
@@ -36,8 +37,6 @@ pub mod ReadsPseudo
 pub mod ReadsSelectors
 pub mod ReadsTests
 pub mod Rooms
-pub mod Spelling
-pub mod TemplateTerms
 pub mod SpellConditions
 pub mod SpellFixed
 pub mod SpellLists
@@ -48,9 +47,10 @@ pub mod SpellOps
 pub mod SpellPseudo
 pub mod SpellTests
 pub mod SpellValues
+pub mod Spelling
+pub mod TemplateTerms
 pub mod Theorem
 pub mod Typed
 pub mod TypesPieces
 pub mod TypesSelectors
 pub mod TypesTests
-mod Worked
