@@ -54,3 +54,4 @@ pub mod Typed
 pub mod TypesPieces
 pub mod TypesSelectors
 pub mod TypesTests
+pub mod TheoremWhole

@@ -1,6 +1,7 @@
 pub mod Conditions
 pub mod Examples
 pub mod Expression
+pub mod Laws
 pub mod Literals
 pub mod Names
 pub mod Plain

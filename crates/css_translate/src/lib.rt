@@ -10,6 +10,6 @@ mod steps;
 #[cfg(test)]
 mod tests;
 
-pub use laws::worked_texts;
+pub use laws::{printed_keeps_meaning, worked_texts};
 pub use literals::literal;
 pub use printing::translate;
