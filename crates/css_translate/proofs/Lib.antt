@@ -1,3 +1,5 @@
+pub mod ConditionCases
+pub mod Further
 pub mod Links
 pub mod LinksNext
 pub mod LiteralBytes
@@ -20,6 +22,7 @@ pub mod MeansSuffix
 pub mod MeansTests
 pub mod MeansValues
 pub mod MeansWords
+pub mod NameCases
 pub mod Paths
 pub mod PathsKept
 pub mod Pieces
@@ -30,6 +33,7 @@ pub mod Readings
 pub mod Rooms
 pub mod Spelling
 pub mod TemplateTerms
+pub mod TextLemmas
 pub mod Theorem
 pub mod Typed
 mod Worked

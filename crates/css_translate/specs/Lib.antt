@@ -9,4 +9,5 @@ pub mod Printed
 pub mod Promise
 pub mod Runs
 pub mod Simples
+pub mod Small
 pub mod Texts

@@ -6,7 +6,7 @@ use Rattle.css_translate.proofs.printing.translate.Goals as goal
 
 pub returns-else-len-gt-MOST_BYTES-clause-meaning :
     goal.returns-else-len-gt-MOST_BYTES-clause-meaning
-returns-else-len-gt-MOST_BYTES-clause-meaning c =
+returns-else-len-gt-MOST_BYTES-clause-meaning c = λ plain.
     let printed_is : string_bytes c.in-Ok.text ≡ printed c.args.dialect c.args.list.now = search rules in
     let within : length (string_bytes c.in-Ok.text) ≤ most_bytes = omega arith in
-    keeps_meaning c.args.dialect c.args.list.now (string_bytes c.in-Ok.text) c.requires printed_is within
+    keeps_meaning c.args.dialect c.args.list.now (string_bytes c.in-Ok.text) plain printed_is within
