@@ -1,4 +1,6 @@
 mod Worked
+pub mod ConditionCases
+pub mod Further
 pub mod KeepsAll
 pub mod Links
 pub mod LinksNext
@@ -22,6 +24,7 @@ pub mod MeansSuffix
 pub mod MeansTests
 pub mod MeansValues
 pub mod MeansWords
+pub mod NameCases
 pub mod Paths
 pub mod PathsKept
 pub mod Pieces
@@ -49,9 +52,9 @@ pub mod SpellTests
 pub mod SpellValues
 pub mod Spelling
 pub mod TemplateTerms
+pub mod TextLemmas
 pub mod Theorem
 pub mod Typed
 pub mod TypesPieces
 pub mod TypesSelectors
 pub mod TypesTests
-pub mod TheoremWhole

@@ -1,7 +1,6 @@
 pub mod Conditions
 pub mod Examples
 pub mod Expression
-pub mod Laws
 pub mod Literals
 pub mod Names
 pub mod Plain
@@ -10,4 +9,5 @@ pub mod Printed
 pub mod Promise
 pub mod Runs
 pub mod Simples
+pub mod Small
 pub mod Texts

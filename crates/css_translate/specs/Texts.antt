@@ -32,8 +32,11 @@ IsTailText tail.Element = Unit {0}
 IsTailText tail.Text = Unit {0}
 IsTailText (tail.Attr n) = IsText n
 
+abbrev pub IsSimpleText : Simple → Type 0
+IsSimpleText x = IsTestText x.test
+
 abbrev pub IsPartText : Part → Type 0
-IsPartText p = IsElementText p.element × All (λ (x : Simple). IsTestText x.test) p.simples
+IsPartText p = IsElementText p.element × All IsSimpleText p.simples
 
 abbrev pub IsSelectorText : Selector → Type 0
 IsSelectorText s = All IsPartText s.parts × IsTailText s.tail

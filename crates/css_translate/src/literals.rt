@@ -1,4 +1,4 @@
-ghost use Rattle.std.specs.Prelude.{◌≡◌, ◌≢◌, ◌++◌, ◌<◌, ◌≤◌, ◌⊎◌, ◌||◌, [], ◌∷◌, OnOk, IfOk, length, slice_index, string_bytes, ◌==◌, true, false};
+ghost use Rattle.std.specs.Prelude.{◌≡◌, ◌≢◌, ◌++◌, ◌<◌, ◌≤◌, ◌⊎◌, ◌||◌, [], ◌∷◌, OnOk, IfOk, length, slice_index, string_bytes, encode_utf8_all, ◌==◌, true, false};
 ghost use Rattle.std.specs.List.{list_any};
 ghost use Rattle.text_base.specs.Text.{IsPlace, run_end, is_not_byte};
 ghost use Rattle.css_translate.specs.Literals.{is_apostrophe, is_double, quoted_runs, quoted, listed, literal_text};
@@ -6,7 +6,7 @@ ghost use Rattle.css_translate.specs.Runs.{WritesRun, further};
 
 use crate::pushing::push;
 use std::alloc::Global;
-use text_base::{NoMemory, byte_at, find_byte, part};
+use text_base::{NoMemory, Txt, byte_at, find_byte, part};
 
 /// Whether the byte stands in the text.
 fn has_byte(text: &str, byte: u8) -> bool
@@ -80,7 +80,8 @@ fn push_concat(out: &mut String, text: &str) -> Result<(), NoMemory>
     push(out, ")")
 }
 
-fn push_literal(out: &mut String, text: &str) -> Result<(), NoMemory>
+/// Appends the literal of a text.
+pub fn push_literal(out: &mut String, text: &str) -> Result<(), NoMemory>
     ensures { OnOk result (string_bytes out.new ≡ string_bytes out.old ++ literal_text text.now) }
 {
     if !has_byte(text, b'\'') {
@@ -90,6 +91,13 @@ fn push_literal(out: &mut String, text: &str) -> Result<(), NoMemory>
     } else {
         push_concat(out, text)
     }
+}
+
+/// Appends the literal of a value.
+pub fn push_value(out: &mut String, value: &Txt) -> Result<(), NoMemory>
+    ensures { OnOk result (string_bytes out.new ≡ string_bytes out.old ++ literal_text (encode_utf8_all value.now)) }
+{
+    push_literal(out, value.as_str())
 }
 
 /// The literal of XPath that stands for a text: in `'`, or in `"` where the text has a `'`, or a `concat` of its runs

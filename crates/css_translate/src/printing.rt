@@ -1,56 +1,162 @@
-ghost use Rattle.std.specs.Prelude.{◌≡◌, ◌++◌, ◌≤◌, ◌<◌, ◌⊎◌, [], OnOk, IfOk, IfErr, OnErr, length, string_bytes, true};
+ghost use Rattle.std.specs.Prelude.{◌≡◌, ◌++◌, ◌≤◌, ◌<◌, ◌⊎◌, OnOk, IfOk, IfErr, flat_map, map, length, string_bytes};
 ghost use Rattle.std.specs.List.{AllByRecursion};
-ghost use Rattle.css_translate.specs.Plain.{is_plain_element, HasPlainName, IsOnePlain, HasNoSimples};
-ghost use Rattle.css_translate.specs.Printed.{part_text, parts_text, printed};
+ghost use Rattle.css_meaning.specs.WellMade.{WellMade};
+ghost use Rattle.css_translate.specs.Printed.{joined, part_text, tail_text, parts_text, selector_text, printed};
 ghost use Rattle.css_translate.specs.Promise.{KeepsMeaning};
+ghost use Rattle.css_translate.specs.Simples.{simple_text};
+ghost use Rattle.css_translate.specs.Small.{IsSmallSimple, IsSmallPart, IsSmallSelector, further_text};
 
+use crate::names::push_attribute;
+use crate::pushing::push;
+use crate::simples::push_simple;
 use crate::steps::push_step;
-use css_meaning::{Dialect, Part, SelectorList};
+use crate::texts::read_list;
+use css_meaning::{Dialect, Part, Selector, SelectorList, Simple, Tail};
 use std::alloc::Global;
-use text_base::{NoMemory, SelectorFault};
+use text_base::{NoMemory, SelectorFault, Txt};
 
 /// The most bytes of an XPath text.
 const MOST_BYTES: usize = 1_048_576;
 
-#[tactic(auto, using(crate::proofs::Pieces::bare_part))]
-fn push_part(alloc: Global, out: &mut String, dialect: Dialect, part: &Part) -> Result<(), NoMemory>
-    requires name { is_plain_element part.now.element ≡ true }
-    requires simples { part.now.simples ≡ [] }
-    ensures { OnOk result (string_bytes out.new ≡ string_bytes out.old ++ part_text dialect part.now) }
+fn push_simples(
+    alloc: Global,
+    out: &mut String,
+    dialect: Dialect,
+    element: &Option<Txt>,
+    simples: &[Simple],
+) -> Result<(), NoMemory>
+    requires { AllByRecursion IsSmallSimple simples.now }
+    ensures { OnOk result (string_bytes out.new ≡ string_bytes out.old ++ flat_map (simple_text dialect element.now) simples.now) }
 {
-    push_step(alloc, out, dialect, part.link, &part.element)
+    for simple in simples {
+        push_simple(alloc, out, dialect, element, simple)?;
+    }
+    Ok(())
 }
 
-fn print_parts(alloc: Global, dialect: Dialect, parts: &[Part]) -> Result<String, NoMemory>
-    requires names { AllByRecursion HasPlainName parts.now }
-    requires simples { AllByRecursion HasNoSimples parts.now }
-    ensures { IfOk result (λ t. string_bytes t ≡ parts_text dialect parts.now) }
+fn push_part(alloc: Global, out: &mut String, dialect: Dialect, part: &Part) -> Result<(), NoMemory>
+    requires { IsSmallPart part.now }
+    ensures { OnOk result (string_bytes out.new ≡ string_bytes out.old ++ part_text dialect part.now) }
+{
+    push_step(alloc, out, dialect, part.link, &part.element)?;
+    push_simples(alloc, out, dialect, &part.element, part.simples.as_slice())
+}
+
+fn push_parts(
+    alloc: Global,
+    out: &mut String,
+    dialect: Dialect,
+    parts: &[Part],
+) -> Result<(), NoMemory>
+    requires { AllByRecursion IsSmallPart parts.now }
+    ensures { OnOk result (string_bytes out.new ≡ string_bytes out.old ++ parts_text dialect parts.now) }
+{
+    for part in parts {
+        push_part(alloc, out, dialect, part)?;
+    }
+    Ok(())
+}
+
+/// Appends the step to the rows that a selector gives: `/text()` or `/@name`, where it does not give the elements.
+fn push_tail(alloc: Global, out: &mut String, dialect: Dialect, tail: &Tail) -> Result<(), NoMemory>
+    ensures { OnOk result (string_bytes out.new ≡ string_bytes out.old ++ tail_text dialect tail.now) }
+{
+    match tail {
+        Tail::Element => Ok(()),
+        Tail::Text => push(out, "/text()"),
+        Tail::Attr(name) => {
+            push(out, "/")?;
+            push_attribute(alloc, out, dialect, name)
+        }
+    }
+}
+
+fn push_selector(
+    alloc: Global,
+    out: &mut String,
+    dialect: Dialect,
+    selector: &Selector,
+) -> Result<(), NoMemory>
+    requires { IsSmallSelector selector.now }
+    ensures { OnOk result (string_bytes out.new ≡ string_bytes out.old ++ selector_text dialect selector.now) }
+{
+    push_parts(alloc, out, dialect, selector.parts.as_slice())?;
+    push_tail(alloc, out, dialect, &selector.tail)
+}
+
+/// ` | ` and a selector
+fn push_one_further(
+    alloc: Global,
+    out: &mut String,
+    dialect: Dialect,
+    selector: &Selector,
+) -> Result<(), NoMemory>
+    requires { IsSmallSelector selector.now }
+    ensures { OnOk result (string_bytes out.new ≡ string_bytes out.old ++ further_text dialect selector.now) }
+{
+    push(out, " | ")?;
+    push_selector(alloc, out, dialect, selector)
+}
+
+fn push_further(
+    alloc: Global,
+    out: &mut String,
+    dialect: Dialect,
+    selectors: &[Selector],
+) -> Result<(), NoMemory>
+    requires { AllByRecursion IsSmallSelector selectors.now }
+    ensures { OnOk result (string_bytes out.new ≡ string_bytes out.old ++ flat_map (further_text dialect) selectors.now) }
+{
+    for selector in selectors {
+        push_one_further(alloc, out, dialect, selector)?;
+    }
+    Ok(())
+}
+
+fn push_list(
+    alloc: Global,
+    out: &mut String,
+    dialect: Dialect,
+    selectors: &[Selector],
+) -> Result<(), NoMemory>
+    requires { AllByRecursion IsSmallSelector selectors.now }
+    ensures { OnOk result (string_bytes out.new ≡ string_bytes out.old ++ joined (map (selector_text dialect) selectors.now)) }
+{
+    match selectors.split_first() {
+        None => Ok(()),
+        Some((first, rest)) => {
+            push_selector(alloc, out, dialect, first)?;
+            push_further(alloc, out, dialect, rest)
+        }
+    }
+}
+
+fn print_list(alloc: Global, dialect: Dialect, list: &SelectorList) -> Result<String, NoMemory>
+    requires { AllByRecursion IsSmallSelector list.now.items }
+    ensures { IfOk result (λ t. string_bytes t ≡ printed dialect list.now) }
 {
     let mut out = String::new(alloc);
-    for part in parts {
-        push_part(alloc, &mut out, dialect, part)?;
-    }
+    push_list(alloc, &mut out, dialect, list.items.as_slice())?;
     Ok(out)
 }
 
 /// The XPath of a selector list, which gives the rows that the list answers, from each row. The text is refused as too
 /// long exactly where it has more than 1,048,576 bytes, as many as an XPath text may have.
+#[tactic(auto, using(crate::proofs::Further::all_small))]
 pub fn translate(
     alloc: Global,
     dialect: Dialect,
     list: &SelectorList,
 ) -> Result<String, SelectorFault>
-    requires { IsOnePlain list.now }
+    requires { WellMade list.now }
     ensures text { IfOk result (λ t. string_bytes t ≡ printed dialect list.now) }
     ensures meaning { IfOk result (λ t. KeepsMeaning dialect list.now (string_bytes t)) }
     ensures short { IfOk result (λ t. length (string_bytes t) ≤ MOST_BYTES) }
     ensures fault { IfErr result (λ e. (e ≡ SelectorFault.Memory) ⊎ (e ≡ SelectorFault.XPathLong)) }
     ensures long { result ≡ Err SelectorFault.XPathLong → MOST_BYTES < length (printed dialect list.now) }
 {
-    let [selector] = list.items.as_slice() else {
-        unreachable!()
-    };
-    match print_parts(alloc, dialect, selector.parts.as_slice()) {
+    read_list(list);
+    match print_list(alloc, dialect, list) {
         Ok(text) => {
             if text.len() > MOST_BYTES {
                 Err(SelectorFault::XPathLong)

@@ -1,5 +1,4 @@
-ghost use Rattle.std.specs.Prelude.{◌≡◌, ◌++◌, OnOk, string_bytes, true};
-ghost use Rattle.css_translate.specs.Plain.{is_plain_element};
+ghost use Rattle.std.specs.Prelude.{◌≡◌, ◌++◌, OnOk, string_bytes};
 ghost use Rattle.css_translate.specs.Printed.{step_text, next_text};
 
 use crate::names::push_element;
@@ -14,7 +13,6 @@ fn push_first(
     dialect: Dialect,
     element: &Option<Txt>,
 ) -> Result<(), NoMemory>
-    requires { is_plain_element element.now ≡ true }
     ensures { OnOk result (string_bytes out.new ≡ string_bytes out.old ++ step_text dialect Link.First element.now) }
 {
     push(out, "descendant-or-self::")?;
@@ -27,7 +25,6 @@ fn push_descendant(
     dialect: Dialect,
     element: &Option<Txt>,
 ) -> Result<(), NoMemory>
-    requires { is_plain_element element.now ≡ true }
     ensures { OnOk result (string_bytes out.new ≡ string_bytes out.old ++ step_text dialect Link.Descendant element.now) }
 {
     push(out, "/descendant::")?;
@@ -40,7 +37,6 @@ fn push_child(
     dialect: Dialect,
     element: &Option<Txt>,
 ) -> Result<(), NoMemory>
-    requires { is_plain_element element.now ≡ true }
     ensures { OnOk result (string_bytes out.new ≡ string_bytes out.old ++ step_text dialect Link.Child element.now) }
 {
     push(out, "/")?;
@@ -54,7 +50,6 @@ fn push_own_name(
     dialect: Dialect,
     element: &Option<Txt>,
 ) -> Result<(), NoMemory>
-    requires { is_plain_element element.now ≡ true }
     ensures { OnOk result (string_bytes out.new ≡ string_bytes out.old ++ next_text dialect element.now) }
 {
     match element {
@@ -73,7 +68,6 @@ fn push_next(
     dialect: Dialect,
     element: &Option<Txt>,
 ) -> Result<(), NoMemory>
-    requires { is_plain_element element.now ≡ true }
     ensures { OnOk result (string_bytes out.new ≡ string_bytes out.old ++ step_text dialect Link.Next element.now) }
 {
     push(out, "/following-sibling::*[1]")?;
@@ -86,7 +80,6 @@ fn push_later(
     dialect: Dialect,
     element: &Option<Txt>,
 ) -> Result<(), NoMemory>
-    requires { is_plain_element element.now ≡ true }
     ensures { OnOk result (string_bytes out.new ≡ string_bytes out.old ++ step_text dialect Link.Later element.now) }
 {
     push(out, "/following-sibling::")?;
@@ -101,7 +94,6 @@ pub fn push_step(
     link: Link,
     element: &Option<Txt>,
 ) -> Result<(), NoMemory>
-    requires { is_plain_element element.now ≡ true }
     ensures { OnOk result (string_bytes out.new ≡ string_bytes out.old ++ step_text dialect link element.now) }
 {
     match link {

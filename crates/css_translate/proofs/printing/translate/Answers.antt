@@ -9,4 +9,4 @@ pub returns-else-len-gt-MOST_BYTES-clause-meaning :
 returns-else-len-gt-MOST_BYTES-clause-meaning c =
     let printed_is : string_bytes c.in-Ok.text ≡ printed c.args.dialect c.args.list.now = search rules in
     let within : length (string_bytes c.in-Ok.text) ≤ most_bytes = omega arith in
-    keeps_meaning c.args.dialect c.args.list.now (string_bytes c.in-Ok.text) c.requires printed_is within
+    keeps_meaning c.args.dialect c.args.list.now (string_bytes c.in-Ok.text) c.requires c.read_list.ensures printed_is within

@@ -1,0 +1,13 @@
+use Rattle.std.proofs.Common.{◌≡◌, sym, ap, ◌∙◌, map, rules, ◌∷◌, List}
+use Rattle.css_meaning.specs.declared.selector.Selector.{Selector}
+use Rattle.css_translate.specs.Printed.{joined, selector_text}
+use Rattle.css_translate.proofs.Pushes.{two, same_piece}
+use Rattle.css_translate.proofs.Further.{printed_further}
+use Rattle.css_translate.proofs.printing.push_list.Goals as goal
+
+pub returns-in_ok-push_selector-in-Some : goal.returns-in_ok-push_selector-in-Some
+returns-in_ok-push_selector-in-Some c =
+    let cut : c.args.selectors.now ≡ c.in-Some.first.now ∷ c.in-Some.rest.now = search rules in
+    same_piece _ _ _ _ _
+    (sym (ap (λ (xs : List Selector). joined (map (selector_text c.args.dialect) xs)) cut ∙ printed_further c.args.dialect c.in-Some.first.now c.in-Some.rest.now))
+    (two _ _ _ _ _ _ c.in_ok-push_selector-in-Some.ensures c.push_further.ensures)
