@@ -47,7 +47,11 @@ fn push_html(out: &mut String, dialect: Dialect, text: &str) -> Result<(), NoMem
 fn push_link(out: &mut String, dialect: Dialect, element: &Option<Txt>) -> Result<(), NoMemory>
     ensures { OnOk result (string_bytes out.new ≡ string_bytes out.old ++ pseudo_text dialect element.now pseudo.Link) }
 {
-    push_html(out, dialect, "[@href and (self::a or self::area or self::link)]")
+    push_html(
+        out,
+        dialect,
+        "[@href and (self::a or self::area or self::link)]",
+    )
 }
 
 fn push_checked(out: &mut String, dialect: Dialect, element: &Option<Txt>) -> Result<(), NoMemory>
