@@ -31,6 +31,7 @@ pub mod Pushes
 pub mod ReadBack
 pub mod Readings
 pub mod Rooms
+pub mod Rows
 pub mod Spelling
 pub mod TemplateTerms
 pub mod TextLemmas
