@@ -40,6 +40,7 @@ pub mod ReadsPseudo
 pub mod ReadsSelectors
 pub mod ReadsTests
 pub mod Rooms
+pub mod Rows
 pub mod SpellConditions
 pub mod SpellFixed
 pub mod SpellLists

@@ -7,6 +7,7 @@ pub mod Plain
 pub mod Predicates
 pub mod Printed
 pub mod Promise
+pub mod Rows
 pub mod Runs
 pub mod Simples
 pub mod Small

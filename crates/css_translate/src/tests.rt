@@ -1,30 +1,30 @@
-ghost use Rattle.std.specs.Prelude.{◌≡◌, IfOk, [], ◌∷◌};
-ghost use Rattle.css_translate.specs.Plain.{IsOnePlain};
+ghost use Rattle.std.specs.Prelude.{◌≡◌, IfOk};
+ghost use Rattle.css_meaning.specs.WellMade.{FitsTest};
+ghost use Rattle.css_translate.specs.Rows.{one_simple};
 
 use crate::{literal, translate};
-use css_meaning::{Dialect, Link, Part, Selector, SelectorList, Tail};
+use css_meaning::{Dialect, Link, Nth, Op, Part, Selector, SelectorList, Simple, Tail, Test};
 use std::alloc::Global;
 use std::test::Fail;
-use text_base::{NoMemory, Seq};
+use text_base::{NoMemory, Seq, Txt};
 
-fn any(alloc: Global, link: Link) -> Part
-    ensures { result ≡ record { link = link; element = None; simples = [] } }
+/// A list of one selector of one part with one simple.
+fn simple_list(
+    alloc: Global,
+    element: Option<Txt>,
+    negated: bool,
+    test: Test,
+) -> Result<SelectorList, NoMemory>
+    ensures { IfOk result (λ list. list ≡ one_simple element negated test) }
 {
-    Part {
-        link,
-        element: None,
-        simples: Seq::from_vec(Vec::new(alloc)),
-    }
-}
-
-/// `* * > *`
-fn stars(alloc: Global) -> Result<SelectorList, NoMemory>
-    ensures { IfOk result IsOnePlain }
-{
+    let mut simples = Vec::new(alloc);
+    simples.push(Simple { negated, test })?;
     let mut parts = Vec::new(alloc);
-    parts.push(any(alloc, Link::First))?;
-    parts.push(any(alloc, Link::Descendant))?;
-    parts.push(any(alloc, Link::Child))?;
+    parts.push(Part {
+        link: Link::First,
+        element,
+        simples: Seq::from_vec(simples),
+    })?;
     let mut items = Vec::new(alloc);
     items.push(Selector {
         parts: Seq::from_vec(parts),
@@ -35,18 +35,77 @@ fn stars(alloc: Global) -> Result<SelectorList, NoMemory>
     })
 }
 
+#[tactic(auto, using(crate::proofs::Rows::one_made))]
+fn shown(
+    alloc: Global,
+    dialect: Dialect,
+    element: Option<Txt>,
+    negated: bool,
+    test: Test,
+) -> Result<String, Fail>
+    requires { FitsTest element negated test }
+{
+    let list = simple_list(alloc, element, negated, test)?;
+    Ok(translate(alloc, dialect, &list)?)
+}
+
+/// `a[title="it's \22 x\22"]`
+fn both_quotes(alloc: Global) -> Result<String, Fail> {
+    let a = Txt::of(alloc, "a")?;
+    let title = Txt::of(alloc, "title")?;
+    let value = Txt::of(alloc, "it's \"x\"")?;
+    shown(
+        alloc,
+        Dialect::Html,
+        Some(a),
+        false,
+        Test::Attr(title, Op::Equals, value),
+    )
+}
+
+/// `li:nth-child(3n-4)`
+fn third(alloc: Global) -> Result<String, Fail> {
+    let li = Txt::of(alloc, "li")?;
+    shown(
+        alloc,
+        Dialect::Html,
+        Some(li),
+        false,
+        Test::Nth(Nth::Child, 3, -4),
+    )
+}
+
+/// `li:not(:last-of-type)`
+fn not_last(alloc: Global) -> Result<String, Fail> {
+    let li = Txt::of(alloc, "li")?;
+    shown(
+        alloc,
+        Dialect::Html,
+        Some(li),
+        true,
+        Test::Nth(Nth::LastOfType, 0, 1),
+    )
+}
+
 #[test]
 fn prints(rt: HostRuntime) -> Result<(), Fail> {
-    let list = stars(rt.alloc())?;
-    let text = translate(rt.alloc(), Dialect::Html, &list)?;
-    assert_eq!(rt; text.as_str(), "descendant-or-self::*/descendant::*/*");
-    for (text, shown) in [
-        ("", "''"),
-        ("it's", "\"it's\""),
-        ("it's \"x\"", "concat('it', \"'\", 's \"x\"')"),
-        ("''\"é", "concat(\"''\", '\"é')"),
+    let alloc = rt.alloc();
+    for (text, want) in [
+        (
+            both_quotes(alloc)?,
+            "descendant-or-self::a[@title = concat('it', \"'\", 's \"x\"')]",
+        ),
+        (
+            third(alloc)?,
+            "descendant-or-self::li[count(preceding-sibling::*) mod 3 = 1]",
+        ),
+        (
+            not_last(alloc)?,
+            "descendant-or-self::li[not(self::*[count(following-sibling::li) = 0])]",
+        ),
     ] {
-        assert_eq!(rt; literal(rt.alloc(), text)?.as_str(), shown);
+        assert_eq!(rt; text.as_str(), want);
     }
+    assert_eq!(rt; literal(alloc, "''\"é")?.as_str(), "concat(\"''\", '\"é')");
     Ok(())
 }

@@ -1,4 +1,4 @@
-use Rattle.std.proofs.Common.{◌≡◌, true, subst, List, ℕ, sym}
+use Rattle.std.proofs.Common.{◌≡◌, true, subst, List, ℕ}
 use lib.Utf8.{scalars}
 use Rattle.css_translate.proofs.TextLemmas.{scalar_chars}
 use Rattle.css_translate.proofs.texts.read.Goals as goal
