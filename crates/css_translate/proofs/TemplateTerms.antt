@@ -1,5 +1,5 @@
 -- The printed pieces as terms, template by template: the same table as that of the texts.
-use Rattle.std.proofs.Common.{ℕ, ◌-◌, Bool, ◌||◌, cond, List, [], ◌∷◌, ◌++◌, map, length, Option, Some, None, codes}
+use Rattle.std.proofs.Common.{ℕ, ◌-◌, ◌||◌, List, [], ◌∷◌, ◌++◌, map, length, Option, Some, None, codes}
 use Rattle.std.specs.Prelude.{ℤ, pos, if◌then◌else◌}
 use Rattle.std.specs.List.{flat_map, list_any}
 use Rattle.std.specs.Char.{to_ascii_lowercase}
