@@ -3,6 +3,7 @@ pub mod Complete
 pub mod Forms
 pub mod GrammarLemmas
 pub mod LineLemmas
+pub mod MadeLemmas
 pub mod OneCss
 pub mod PlainLemmas
 pub mod Plans

@@ -1,9 +1,10 @@
-use Rattle.extract_main.proofs.PlainLemmas.{one_plain, all_small}
+use Rattle.extract_main.proofs.MadeLemmas.{well_made}
+use Rattle.extract_main.proofs.PlainLemmas.{all_small}
 use Rattle.extract_main.proofs.Readings.{keeps_for}
 use Rattle.extract_main.proofs.answers.css_answer.Goals as goal
 
 pub translate-requires : goal.translate-requires
-translate-requires c = one_plain c.args.text.now c.in-Ok.list c.in-Ok.ensures.ok
+translate-requires c = well_made c.args.text.now c.in-Ok.list c.in-Ok.ensures.ok
 
 pub css_line-requires : goal.css_line-requires
 css_line-requires c = all_small c.args.text.now c.in-Ok.list c.in-Ok.ensures.ok
