@@ -1,0 +1,4 @@
+pub mod LexLemmas
+pub mod PlainLemmas
+pub mod RawLemmas
+pub mod TagLemmas
