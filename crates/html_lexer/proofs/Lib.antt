@@ -2,3 +2,4 @@ pub mod LexLemmas
 pub mod PlainLemmas
 pub mod RawLemmas
 pub mod TagLemmas
+pub mod StepLemmas

@@ -82,3 +82,6 @@ past_bracket text i j k utf8 e l is =
 
 pub letter_is_name : (b : ℕ) → is_letter b ≡ true → is_name_byte b ≡ true
 letter_is_name b h = grind (arith, nat_tests)
+
+pub letter_some : (b : ℕ) → is_letter b ≡ true → 0 < b
+letter_some b h = grind (arith, nat_tests)

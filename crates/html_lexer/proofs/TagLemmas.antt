@@ -11,6 +11,7 @@ use Rattle.html_lexer.specs.declared.tags.AttrStep.{AttrStep}
 use Rattle.html_lexer.specs.declared.tags.AttrStep.TheVariants.{Reads, Closes, Refuses}
 use Rattle.text_base.specs.declared.reasons.PageReason.{PageReason}
 use Rattle.html_lexer.specs.Tags.{attr_at, TagReads, TagComesTo}
+use Rattle.html_lexer.specs.Attributes.{Writes, IsLast, pair_at}
 
 -- a tag reads one list of attributes, and comes to one thing
 pub same_tag : (text : List ℕ) (i : ℕ) (us vs : List Attribute) (x y : AttrStep) → TagReads text i us x → TagReads text i vs y → (us ≡ vs) × (x ≡ y)
@@ -54,3 +55,15 @@ quoted_leads text name name_to v q utf8 l ascii part e within =
   where
     same_byte : (x y : ℕ) → not (x == y) ≡ false → x ≡ y
     same_byte x y h = grind (arith, nat_tests)
+
+-- what stands in a start tag writes one list of attributes
+pub same_attributes : (attrs : List ℕ) (i : ℕ) (ps qs : List (List ℕ × List ℕ)) → Writes attrs i ps → Writes attrs i qs → ps ≡ qs
+same_attributes attrs i [] [] h k = refl
+same_attributes attrs i [] (q ∷ qs) h k = absurd (subst IsLast k.1 h)
+same_attributes attrs i (p ∷ ps) [] h k = absurd (subst IsLast h.1 k)
+same_attributes attrs i (p ∷ ps) (q ∷ qs) h k =
+    let f : Reads h.0 ≡ Reads k.0 = sym h.1 ∙ k.1 in
+    let e : h.0 ≡ k.0 = cc in
+    let first : p ≡ q = h.2 ∙ ap (pair_at attrs) e ∙ sym k.2 in
+    let later : ps ≡ qs = same_attributes attrs h.0.to ps qs h.3 (subst (λ (a : Attribute). Writes attrs a.to qs) (sym e) k.3) in
+    cc

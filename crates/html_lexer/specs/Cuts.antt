@@ -7,7 +7,7 @@ use Rattle.html_lexer.specs.declared.tags.Attribute.{Attribute}
 use Rattle.html_lexer.specs.declared.steps.TokenAt.{TokenAt}
 use Rattle.html_lexer.specs.declared.steps.TokenAt.TheVariants.{Start, End, Text, Comment, Doctype}
 use Rattle.html_lexer.specs.declared.steps.Step.{Step}
-use Rattle.html_lexer.specs.declared.steps.Step.TheVariants.{Finished, Gives, Fails}
+use Rattle.html_lexer.specs.declared.steps.Step.TheVariants.{Gives, Fails}
 
 -- a part of the text can be cut out
 pub record IsPart (text : List ℕ) (from to : ℕ) : Type 0 where
@@ -35,6 +35,5 @@ IsCut text i (Comment text_from text_to to) = (text_from ≤ text_to) × IsPlace
 IsCut text i (Doctype to) = IsPlace text to × (i < to)
 
 abbrev pub Cuts : List ℕ → ℕ → Step → Type 0
-Cuts text i Finished = Unit {0}
 Cuts text i (Fails reason) = Unit {0}
 Cuts text i (Gives t) = IsCut text i t

@@ -3,7 +3,7 @@ use Rattle.std.specs.Prelude.{◌≡◌, ℕ, List, [], ◌∷◌, Option, Some,
 use Rattle.text_base.specs.declared.reasons.PageFault.{PageFault}
 use Rattle.text_base.specs.declared.reasons.PageReason.{PageReason}
 use Rattle.html_lexer.specs.declared.steps.TokenAt.{TokenAt}
-use Rattle.html_lexer.specs.declared.steps.Step.TheVariants.{Finished, Gives, Fails}
+use Rattle.html_lexer.specs.declared.steps.Step.TheVariants.{Gives, Fails}
 use Rattle.html_lexer.specs.declared.lexer.Token.{Token}
 use Rattle.html_lexer.specs.Steps.{StepAt}
 use Rattle.html_lexer.specs.State.{Reading}
@@ -25,6 +25,12 @@ Lexes text n tokens = Spell text [] 0 tokens n
 -- tokens spell the text up to a place, at which one begins that is refused for this reason
 abbrev pub LexFault : List ℕ → PageReason → ℕ → Type 0
 LexFault text reason at = (tokens : List Tok) × Lexes text at tokens × StepAt text (last_name [] tokens) at (Fails reason)
+
+-- a lexer has read tokens that spell the text up to its place
+pub record HasRead (r : Reading) : Type 0 where
+  pub tokens : List Tok
+  pub spelled : Lexes r.text r.at tokens
+  pub named : r.name ≡ last_name [] tokens
 
 -- A call of `next` gives the token at the place, and goes on to its end.
 abbrev pub GivesToken : Reading → Token → Reading → Type 0

@@ -11,7 +11,7 @@ use Rattle.html_lexer.specs.declared.tags.AttrStep.TheVariants.{Reads, Closes, R
 use Rattle.html_lexer.specs.declared.steps.TokenAt.{TokenAt}
 use Rattle.html_lexer.specs.declared.steps.TokenAt.TheVariants.{Start, End, Text, Comment, Doctype}
 use Rattle.html_lexer.specs.declared.steps.Step.{Step}
-use Rattle.html_lexer.specs.declared.steps.Step.TheVariants.{Finished, Gives, Fails}
+use Rattle.html_lexer.specs.declared.steps.Step.TheVariants.{Gives, Fails}
 
 -- a tag, a comment or other markup begins: `<` and a letter, `/`, `!` or `?`
 abbrev pub is_opener : ℕ → Bool
@@ -94,9 +94,9 @@ MarkupAt text i step = MatchBool (starts_at text i) (StartAt text i (run_end is_
 abbrev pub raw_end : List ℕ → List ℕ → ℕ → ℕ
 raw_end text name i = if is_raw name then find_where (closes name) text i else i
 
--- What the text has at i, where the token before is a start tag of this name, or no start tag and the name is empty.
+-- What begins at i, before the text's end, where the token before is a start tag of this name, or no start tag and the
+-- name is empty.
 abbrev pub StepAt : List ℕ → List ℕ → ℕ → Step → Type 0
 StepAt text name i step =
-    MatchBool (nat_lt i (length text))
-    (MatchBool (nat_lt i (raw_end text name i)) (step ≡ Gives (Text (raw_end text name i) (is_escapable name))) (MarkupAt text i step))
-    (step ≡ Finished)
+    (i < length text)
+    × MatchBool (nat_lt i (raw_end text name i)) (step ≡ Gives (Text (raw_end text name i) (is_escapable name))) (MarkupAt text i step)

@@ -87,8 +87,10 @@ impl<'t> Lexer<'t> {
     {
         let text = self.text;
         let from = self.at;
+        if from >= text.len() {
+            return Ok(None);
+        }
         match step_at(text, self.name, from) {
-            Step::Finished => Ok(None),
             Step::Fails(reason) => Err(PageFault { reason, at: from }),
             Step::Gives(
                 TokenAt::Start {

@@ -1,4 +1,5 @@
 ghost use Rattle.std.specs.Prelude.{◌≡◌, ◌≤◌, ◌+◌, ◌&&◌, ◌||◌, length, drop};
+ghost use Rattle.std.specs.Str.{str_eq_ignore_ascii_case};
 ghost use Rattle.html_lexer.specs.Names.{is_one_of, literal_names, texts, is_raw, is_escapable, is_plaintext, has_letters, closes};
 
 use crate::kinds::Gap;
@@ -10,12 +11,19 @@ static LITERAL: [&str; 6] = ["script", "style", "iframe", "xmp", "noembed", "nof
 /// The elements whose content is raw text in which they do.
 static ESCAPABLE: [&str; 2] = ["title", "textarea"];
 
+/// Whether two names differ in the case of ASCII letters alone.
+fn same_letters(name: &str, other: &str) -> bool
+    ensures { result ≡ str_eq_ignore_ascii_case name.now other.now }
+{
+    name.eq_ignore_ascii_case(other)
+}
+
 /// Whether a name is one of these, in any letter case.
 fn is_one_of(names: &[&str], name: &str) -> bool
     ensures { result ≡ is_one_of (texts names.now) name.now }
 {
     for entry in names {
-        if entry.eq_ignore_ascii_case(name) {
+        if same_letters(entry, name) {
             return true;
         }
     }
@@ -48,7 +56,7 @@ pub fn is_raw(name: &str) -> bool
 pub fn is_refused(name: &str, slash: bool) -> bool
     ensures { result ≡ (is_plaintext name.now || (slash && is_raw name.now)) }
 {
-    name.eq_ignore_ascii_case("plaintext") || (slash && is_raw(name))
+    same_letters(name, "plaintext") || (slash && is_raw(name))
 }
 
 /// Whether these letters stand at a place, in any case.

@@ -7,7 +7,9 @@ use crate::kinds::{Gap, NameByte};
 use crate::names::{has_letters, is_escapable, is_refused};
 use crate::scans::{plain_end, raw_end};
 use crate::tags::{AttrStep, tag_end};
-use text_base::{ByteKind, PageReason, Space5, byte_at, find_byte, find_text, is_letter, part, run_end};
+use text_base::{
+    ByteKind, PageReason, Space5, byte_at, find_byte, find_text, is_letter, part, run_end,
+};
 
 /// Where the parts of a token stand, which begins where it was looked for.
 #[derive(Clone, Copy, Debug, PartialEq, Eq)]
@@ -36,10 +38,9 @@ pub enum TokenAt {
     },
 }
 
-/// What a page has next.
+/// What a page has at a place before its end.
 #[derive(Clone, Copy, Debug, PartialEq, Eq)]
 pub enum Step {
-    Finished,
     Gives(TokenAt),
     Fails(PageReason),
 }
@@ -52,19 +53,17 @@ fn end_tag_at(text: &str, at: usize) -> Step
     ensures step { result ≡ end_tag_at text.now at }
     ensures cut { Cuts text.now at result }
 {
-    if !is_letter(byte_at(text, at + 2)) {
-        return Step::Fails(PageReason::BadTag);
+    if is_letter(byte_at(text, at + 2)) {
+        let name_to = run_end(text, &NameByte, at + 2);
+        let end = run_end(text, &Space5, name_to);
+        if byte_at(text, end) == b'>' {
+            return Step::Gives(TokenAt::End {
+                name_to,
+                to: end + 1,
+            });
+        }
     }
-    let name_to = run_end(text, &NameByte, at + 2);
-    let end = run_end(text, &Space5, name_to);
-    if byte_at(text, end) == b'>' {
-        Step::Gives(TokenAt::End {
-            name_to,
-            to: end + 1,
-        })
-    } else {
-        Step::Fails(PageReason::BadTag)
-    }
+    Step::Fails(PageReason::BadTag)
 }
 
 /// The comment whose text begins at a place.
@@ -209,7 +208,7 @@ fn start_at(text: &str, at: usize, name_to: usize) -> Step
 }
 
 /// What begins at a place outside raw text.
-#[tactic(auto, using(text_base::proofs::Boundaries::in_text, text_base::proofs::Boundaries::past_byte, crate::proofs::PlainLemmas::letter_is_name))]
+#[tactic(auto, using(text_base::proofs::Boundaries::in_text, text_base::proofs::Boundaries::past_byte))]
 fn markup_at(text: &str, at: usize) -> Step
     requires { at < length text.now }
     ensures step { MarkupAt text.now at result }
@@ -225,14 +224,11 @@ fn markup_at(text: &str, at: usize) -> Step
 /// What a page has at a place, where the token before it is a start tag of this name, or no start
 /// tag and the name is empty.
 pub fn step_at(text: &str, name: &str, at: usize) -> Step
-    requires within { at ≤ length text.now }
+    requires within { at < length text.now }
     requires place { IsPlace text.now at }
     ensures step { StepAt text.now name.now at result }
     ensures cut { Cuts text.now at result }
 {
-    if at >= text.len() {
-        return Step::Finished;
-    }
     let raw = raw_end(text, name, at);
     if at < raw {
         return Step::Gives(TokenAt::Text {
