@@ -1,6 +1,6 @@
 -- A text has one list of tokens or one fault, never both.
 use Rattle.std.proofs.Common.{◌≡◌, ℕ, List, [], ◌∷◌, ◌++◌, Bool, true, false, sym, ◌∙◌, ap, refl, subst}
-use Rattle.std.proofs.Common.{get_or, length, ltb, ◌+◌, ◌||◌, ◌<◌, arith}
+use Rattle.std.proofs.Common.{get_or, length, ltb, ◌+◌, ◌||◌, arith}
 use Rattle.std.specs.Prelude.{◌==◌, slice_range, Option, Some, None}
 use Rattle.std.specs.Bool.{MatchBool}
 use Rattle.text_base.specs.Text.{run_end}

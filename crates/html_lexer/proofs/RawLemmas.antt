@@ -1,12 +1,12 @@
 -- Where raw text ends.
-use Rattle.std.proofs.Common.{◌≡◌, ℕ, ◌+◌, ◌-◌, ◌<◌, ◌≤◌, Bool, true, false, ◌&&◌, ◌||◌, List, length, get_or, take, drop, sym, refl, ◌∙◌, ap, arith, get_or-drop, add-zero, length-drop, drop-drop, leb}
+use Rattle.std.proofs.Common.{◌≡◌, ℕ, ◌+◌, ◌-◌, ◌<◌, ◌≤◌, Bool, true, false, ◌&&◌, ◌||◌, List, length, get_or, take, drop, refl, ◌∙◌, ap, arith, get_or-drop, add-zero, length-drop, drop-drop, leb}
 use Rattle.std.specs.Prelude.{◌==◌, slice_range}
 use Rattle.std.specs.Str.{str_eq_ignore_ascii_case}
 use Rattle.std.proofs.lemmas.Bool.Decides.{nat_tests}
 use Rattle.text_base.specs.Text.{find_where, run_end, is_not_byte}
 use Rattle.html_lexer.specs.Kinds.{is_gap}
 use Rattle.html_lexer.specs.Names.{has_letters, closes}
-use Rattle.html_lexer.proofs.PlainLemmas.{neither, to_end, here, later}
+use Rattle.html_lexer.proofs.PlainLemmas.{to_end, here, later}
 
 module _ (name text : List ℕ) where
   same_leb : (a b c d : ℕ) → a + d ≡ c + b → leb a b ≡ leb c d

@@ -1,5 +1,5 @@
 -- Steps put together.
-use Rattle.std.proofs.Common.{◌≡◌, ℕ, ◌+◌, List, Bool, true, get_or, sym, ap, refl, subst, ◌&&◌, eq-eqb}
+use Rattle.std.proofs.Common.{◌≡◌, ℕ, ◌+◌, List, true, get_or, sym, ap, subst, eq-eqb}
 use Rattle.std.specs.Prelude.{◌==◌}
 use Rattle.std.specs.Bool.{MatchBool}
 use Rattle.text_base.specs.Text.{run_end, is_letter}

@@ -1,5 +1,5 @@
 -- What a start tag comes to, step by step, and that it comes to one thing.
-use Rattle.std.proofs.Common.{◌≡◌, ℕ, ◌+◌, ◌<◌, ◌≤◌, List, [], ◌∷◌, Bool, true, false, not, length, get_or, sym, ◌∙◌, ap, refl, subst, arith, IsUtf8}
+use Rattle.std.proofs.Common.{◌≡◌, ℕ, ◌+◌, ◌<◌, ◌≤◌, List, [], ◌∷◌, false, not, length, get_or, sym, ◌∙◌, ap, refl, subst, arith, IsUtf8}
 use Rattle.std.specs.Prelude.{◌==◌}
 use Rattle.std.proofs.lemmas.Bool.Decides.{nat_tests}
 use Rattle.text_base.specs.Text.{run_end, is_not_byte, IsPlace}
@@ -9,8 +9,7 @@ use Rattle.html_lexer.specs.Cuts.{IsPart, IsCutOut, LeadsOn}
 use Rattle.html_lexer.specs.declared.tags.Attribute.{Attribute}
 use Rattle.html_lexer.specs.declared.tags.AttrStep.{AttrStep}
 use Rattle.html_lexer.specs.declared.tags.AttrStep.TheVariants.{Reads, Closes, Refuses}
-use Rattle.text_base.specs.declared.reasons.PageReason.{PageReason}
-use Rattle.html_lexer.specs.Tags.{attr_at, TagReads, TagComesTo}
+use Rattle.html_lexer.specs.Tags.{TagReads}
 use Rattle.html_lexer.specs.Attributes.{Writes, IsLast, pair_at}
 
 -- a tag reads one list of attributes, and comes to one thing

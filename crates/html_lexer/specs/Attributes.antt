@@ -6,7 +6,7 @@ use Rattle.html_lexer.specs.declared.tags.AttrStep.{AttrStep}
 use Rattle.html_lexer.specs.declared.tags.AttrStep.TheVariants.{Reads, Closes, Refuses}
 use Rattle.html_lexer.specs.Tags.{attr_at}
 use Rattle.html_lexer.specs.State.{AttrReading}
-use Rattle.html_lexer.specs.Tokens.{Tok, start_tok}
+use Rattle.html_lexer.specs.Tokens.{start_tok}
 use Rattle.html_lexer.specs.Lexing.{Begins}
 
 -- a name and a value that is not decoded

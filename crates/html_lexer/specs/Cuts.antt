@@ -1,5 +1,5 @@
 -- Where a page may be cut, as the private functions of `tags` and `steps` need it.
-use Rattle.std.specs.Prelude.{◌≡◌, ℕ, ◌+◌, ◌-◌, ◌<◌, ◌≤◌, Bool, List, length, slice_index}
+use Rattle.std.specs.Prelude.{ℕ, ◌+◌, ◌-◌, ◌<◌, ◌≤◌, List, length, slice_index}
 use Rattle.text_base.specs.Text.{IsPlace}
 use Rattle.html_lexer.specs.declared.tags.AttrStep.{AttrStep}
 use Rattle.html_lexer.specs.declared.tags.AttrStep.TheVariants.{Reads, Closes, Refuses}

@@ -1,5 +1,5 @@
 -- The tokens that a page spells.
-use Rattle.std.specs.Prelude.{◌≡◌, ℕ, List, [], ◌∷◌, Option, Some, None, Result, Ok, Err, length, ◌⊎◌}
+use Rattle.std.specs.Prelude.{◌≡◌, ℕ, List, [], ◌∷◌, Option, Some, None, Result, Ok, Err, length}
 use Rattle.text_base.specs.declared.reasons.PageFault.{PageFault}
 use Rattle.text_base.specs.declared.reasons.PageReason.{PageReason}
 use Rattle.html_lexer.specs.declared.steps.TokenAt.{TokenAt}

@@ -1,5 +1,5 @@
 -- Names of elements whose content is raw text, in any letter case (HTML, section 13.2.5, "RAWTEXT", "RCDATA" and "script data" states).
-use Rattle.std.specs.Prelude.{ℕ, ◌+◌, ◌==◌, ◌&&◌, ◌||◌, nat_le, Bool, List, [], ◌∷◌, ◌++◌, length, map, slice_index, slice_range, codes}
+use Rattle.std.specs.Prelude.{ℕ, ◌+◌, ◌==◌, ◌&&◌, ◌||◌, nat_le, Bool, List, [], ◌∷◌, length, map, slice_index, slice_range, codes}
 use Rattle.std.specs.List.{list_any}
 use Rattle.std.specs.Str.{str_eq_ignore_ascii_case}
 use Rattle.html_lexer.specs.Kinds.{is_gap}

@@ -1,5 +1,5 @@
 -- What begins at a place of a page.
-use Rattle.std.specs.Prelude.{◌≡◌, ℕ, ◌+◌, ◌-◌, ◌<◌, ◌≤◌, Bool, true, false, List, [], ◌∷◌, length, slice_index, slice_range, ◌==◌, ◌&&◌, ◌||◌, nat_le, nat_lt, if◌then◌else◌, codes}
+use Rattle.std.specs.Prelude.{◌≡◌, ℕ, ◌+◌, ◌<◌, Bool, true, List, length, slice_index, slice_range, ◌==◌, ◌&&◌, ◌||◌, nat_le, nat_lt, if◌then◌else◌, codes}
 use Rattle.std.specs.Bool.{MatchBool}
 use Rattle.text_base.specs.Text.{run_end, find_where, begins_with, is_not_byte, is_space5, is_letter}
 use Rattle.text_base.specs.declared.reasons.PageReason.TheVariants.{BadTag, BadComment, BadMarkup}
@@ -8,7 +8,6 @@ use Rattle.html_lexer.specs.Names.{is_raw, is_escapable, is_plaintext, has_lette
 use Rattle.html_lexer.specs.Tags.{TagComesTo}
 use Rattle.html_lexer.specs.declared.tags.AttrStep.{AttrStep}
 use Rattle.html_lexer.specs.declared.tags.AttrStep.TheVariants.{Reads, Closes, Refuses}
-use Rattle.html_lexer.specs.declared.steps.TokenAt.{TokenAt}
 use Rattle.html_lexer.specs.declared.steps.TokenAt.TheVariants.{Start, End, Text, Comment, Doctype}
 use Rattle.html_lexer.specs.declared.steps.Step.{Step}
 use Rattle.html_lexer.specs.declared.steps.Step.TheVariants.{Gives, Fails}

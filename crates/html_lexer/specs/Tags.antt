@@ -1,11 +1,10 @@
 -- The attributes of a start tag, by their places in the text (HTML, section 13.1.2.3).
-use Rattle.std.specs.Prelude.{◌≡◌, ℕ, ◌+◌, ◌-◌, ◌<◌, ◌≤◌, Bool, true, false, List, [], ◌∷◌, length, slice_index, ◌==◌, ◌&&◌, nat_le, nat_lt, if◌then◌else◌}
+use Rattle.std.specs.Prelude.{◌≡◌, ℕ, ◌+◌, ◌-◌, true, false, List, [], ◌∷◌, length, slice_index, ◌==◌, ◌&&◌, nat_le, nat_lt, if◌then◌else◌}
 use Rattle.text_base.specs.Text.{run_end, is_space5, is_not_byte}
 use Rattle.html_lexer.specs.Kinds.{is_gap, is_attr_byte, is_bare_byte}
 use Rattle.html_lexer.specs.declared.tags.Attribute.{Attribute}
 use Rattle.html_lexer.specs.declared.tags.AttrStep.{AttrStep}
 use Rattle.html_lexer.specs.declared.tags.AttrStep.TheVariants.{Reads, Closes, Refuses}
-use Rattle.text_base.specs.declared.reasons.PageReason.{PageReason}
 use Rattle.text_base.specs.declared.reasons.PageReason.TheVariants.{BadTag, BadAttribute}
 
 -- the attribute whose value stands in quotes, which open at v

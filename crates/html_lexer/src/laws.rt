@@ -1,10 +1,13 @@
-ghost use Rattle.std.specs.Prelude.{◌≡◌, ℕ, List, length};
+ghost use Rattle.std.specs.Prelude.{◌≡◌, ℕ, Bool, List, length, map, slice_range};
 ghost use Rattle.text_base.specs.declared.reasons.PageReason.{PageReason};
 ghost use Rattle.html_lexer.specs.Tokens.{Tok};
-ghost use Rattle.html_lexer.specs.Attributes.{Writes};
+ghost use Rattle.html_lexer.specs.Attributes.{Writes, pair_at};
+ghost use Rattle.html_lexer.specs.Tags.{TagReads};
+ghost use Rattle.html_lexer.specs.declared.tags.Attribute.{Attribute};
 ghost use Rattle.html_lexer.specs.Lexing.{Lexes, LexFault, IsWhole};
 
 use crate::lexer::Lexer;
+use crate::tags::AttrStep;
 use text_base::PageFault;
 
 /// The first place at which a token of the page is refused, or None where tokens spell all of it.
@@ -30,7 +33,9 @@ pub fn one_reading()
     ensures fault { (text : List ℕ) (reason other : PageReason) (at place : ℕ) → LexFault text reason at → LexFault text other place → (reason ≡ other) × (at ≡ place) }
 {}
 
-/// What stands in a start tag writes one list of attributes.
+/// What stands in a start tag writes one list of attributes, and it is the list that the tag reads in
+/// its page.
 pub fn one_attribute_list()
-    ensures { (attrs : List ℕ) (ps qs : List (List ℕ × List ℕ)) → Writes attrs 0 ps → Writes attrs 0 qs → ps ≡ qs }
+    ensures page { (text : List ℕ) (n m to : ℕ) (slash : Bool) (attributes : List Attribute) → TagReads text n attributes (AttrStep.Closes m to slash) → Writes (slice_range text n m) 0 (map (pair_at text) attributes) }
+    ensures one { (attrs : List ℕ) (ps qs : List (List ℕ × List ℕ)) → Writes attrs 0 ps → Writes attrs 0 qs → ps ≡ qs }
 {}

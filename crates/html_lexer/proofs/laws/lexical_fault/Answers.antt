@@ -1,4 +1,4 @@
-use Rattle.std.proofs.Common.{◌≡◌, ◌∙◌, ap, subst, Ok, Err}
+use Rattle.std.proofs.Common.{◌∙◌, ap, subst, Ok}
 use Rattle.std.specs.Prelude.{Option}
 use Rattle.html_lexer.specs.State.{Reading}
 use Rattle.html_lexer.specs.Tokens.{view}

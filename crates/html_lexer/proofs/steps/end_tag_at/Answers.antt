@@ -1,5 +1,4 @@
 use Rattle.std.proofs.Common.{◌≡◌, ◌+◌, ◌<◌, get_or, length, arith, refl, true, ap, sym, ◌∙◌}
-use Rattle.std.proofs.lemmas.Bool.Decides.{nat_tests}
 use Rattle.text_base.specs.Text.{is_letter}
 use Rattle.text_base.proofs.Boundaries.{past_byte, in_text}
 use Rattle.html_lexer.proofs.PlainLemmas.{letter_is_name, letter_some}

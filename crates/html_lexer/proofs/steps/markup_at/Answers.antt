@@ -1,4 +1,4 @@
-use Rattle.std.proofs.Common.{◌≡◌, ◌+◌, get_or, arith, true, ap, sym, ◌∙◌}
+use Rattle.std.proofs.Common.{◌≡◌, ◌+◌, get_or, true, ap, sym, ◌∙◌}
 use Rattle.text_base.specs.Text.{is_letter}
 use Rattle.html_lexer.proofs.StepLemmas.{markup_start}
 use Rattle.html_lexer.proofs.steps.markup_at.Goals as goal

@@ -1,7 +1,6 @@
-use Rattle.std.proofs.Common.{◌≡◌, sym, refl, ◌∙◌, ap, subst}
+use Rattle.std.proofs.Common.{◌≡◌, refl, ◌∙◌, ap}
 use Rattle.std.specs.Prelude.{slice_range}
 use Rattle.html_lexer.specs.State.{AttrReading}
-use Rattle.html_lexer.specs.declared.tags.AttrStep.TheVariants.{Closes, Refuses}
 use Rattle.html_lexer.proofs.StepLemmas.{given_attr, last_attr}
 use Rattle.html_lexer.proofs.attrs.Attrs.next.Goals as goal
 
