@@ -1,5 +1,5 @@
 -- Steps put together.
-use Rattle.std.proofs.Common.{◌≡◌, ℕ, ◌+◌, List, true, get_or, sym, ap, subst, eq-eqb}
+use Rattle.std.proofs.Common.{◌≡◌, ℕ, ◌+◌, List, true, get_or, sym, ap, subst, eq-eqb, Bool}
 use Rattle.std.specs.Prelude.{◌==◌}
 use Rattle.std.specs.Bool.{MatchBool}
 use Rattle.text_base.specs.Text.{run_end, is_letter}
@@ -9,12 +9,12 @@ use Rattle.html_lexer.specs.declared.tags.Attribute.{Attribute}
 use Rattle.html_lexer.specs.declared.tags.AttrStep.{AttrStep}
 use Rattle.html_lexer.specs.declared.tags.AttrStep.TheVariants.{Reads}
 use Rattle.html_lexer.specs.Tags.{attr_at}
-use Rattle.html_lexer.specs.Attributes.{IsLast}
+use Rattle.html_lexer.specs.Attributes.{IsLast, IsAttrs}
 use Rattle.html_lexer.specs.Steps.{StartAt, MarkupAt, StepAt, other_at}
 use Rattle.html_lexer.specs.declared.steps.Step.{Step}
 use Rattle.html_lexer.specs.declared.steps.Step.TheVariants.{Gives}
 use Rattle.html_lexer.specs.declared.steps.TokenAt.{TokenAt}
-use Rattle.html_lexer.specs.Tokens.{Tok, tok_at}
+use Rattle.html_lexer.specs.Tokens.{Tok, tok_at, start_tok}
 use Rattle.html_lexer.specs.Lexing.{Begins}
 use Rattle.html_lexer.proofs.PlainLemmas.{both}
 
@@ -37,3 +37,7 @@ given_attr old inside a e step = subst (λ (r : AttrReading). attr_at r.text r.a
 
 pub last_attr : (old inside : AttrReading) (step : AttrStep) → inside ≡ old → IsLast step → step ≡ attr_at inside.text inside.at → IsLast (attr_at old.text old.at)
 last_attr old inside step e none is = subst (λ (r : AttrReading). IsLast (attr_at r.text r.at)) e (subst IsLast is none)
+
+-- what a start tag gives as its attributes may be read
+pub attrs_of : (text before name attrs : List ℕ) (at from to : ℕ) (slash : Bool) → Begins text before at (start_tok from to name attrs slash) → IsAttrs attrs
+attrs_of text before name attrs at from to slash h = (text, before, name, at, from, to, slash, h)

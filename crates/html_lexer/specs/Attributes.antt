@@ -26,7 +26,7 @@ Writes attrs i (p ∷ ps) = (a : Attribute) × (attr_at attrs i ≡ Reads a) × 
 
 -- a start tag of some page stands at some place, and these are its attributes
 abbrev pub IsAttrs : List ℕ → Type 0
-IsAttrs attrs = (text before name : List ℕ) × (from to : ℕ) × (slash : Bool) × Begins text before from (start_tok from to name attrs slash)
+IsAttrs attrs = (text before name : List ℕ) × (at from to : ℕ) × (slash : Bool) × Begins text before at (start_tok from to name attrs slash)
 
 -- What a call of `next` does. After the last attribute it stays.
 abbrev pub IsNextAttr : AttrReading → Option (Bor (List ℕ) × Bor (List ℕ)) → AttrReading → Type 0

@@ -7,26 +7,47 @@ fn reads_tokens(rt: HostRuntime) -> Result<(), Fail> {
     let page =
         "<!DOCTYPE html><P id=a title='b c' hidden />x&amp;<!--d--></p ><?e><script>f</g></SCRIPT>";
     let mut lexer = Lexer::new(page);
-    let mut words = 0;
-    while let Some(token) = lexer.next().expect(&rt, "a token") {
-        words += 1;
-        match token {
-            Token::Doctype { from, to } => assert!(rt; from == 0 && to == 15),
-            Token::Start {
-                name,
-                attrs,
-                slash,
-                ..
-            } => {
+    for _ in 0..9 {
+        match lexer.next() {
+            Ok(Some(Token::Doctype { from, to })) => assert!(rt; from == 0 && to == 15),
+            Ok(
+                Some(
+                    Token::Start {
+                        name,
+                        attrs,
+                        slash,
+                        ..
+                    },
+                ),
+            ) => {
                 assert_eq!(rt; slash, name == "P");
                 assert_eq!(rt; attrs == "", name == "script");
             }
-            Token::Text { raw, refs, .. } => assert_eq!(rt; raw == "x&amp;", refs),
-            Token::Comment { text, .. } => assert!(rt; text == "d" || text == "?e"),
-            Token::End { name, .. } => assert!(rt; name == "p" || name == "SCRIPT"),
+            Ok(Some(Token::Text { raw, refs, .. })) => assert_eq!(rt; raw == "x&amp;", refs),
+            Ok(Some(Token::Comment { text, .. })) => assert!(rt; text == "d" || text == "?e"),
+            Ok(Some(Token::End { name, .. })) => assert!(rt; name == "p" || name == "SCRIPT"),
+            _ => assert!(rt; false),
         }
     }
-    assert_eq!(rt; words, 9);
+    assert!(rt; matches!(lexer.next(), Ok(None)));
+    Ok(())
+}
+
+#[test]
+fn reads_attributes(rt: HostRuntime) -> Result<(), Fail> {
+    let mut lexer = Lexer::new("<p ID = a/ title=\"b 'c\"x/y= >");
+    match lexer.next() {
+        Ok(Some(Token::Start { attrs, .. })) => {
+            let mut list = Attrs::new(attrs);
+            let rows = [("ID", "a/"), ("title", "b 'c"), ("x", ""), ("y", "")];
+            for row in rows {
+                assert_eq!(rt; list.next(), Some(row));
+            }
+            assert_eq!(rt; list.next(), None);
+            assert_eq!(rt; list.next(), None);
+        }
+        _ => assert!(rt; false),
+    }
     Ok(())
 }
 
