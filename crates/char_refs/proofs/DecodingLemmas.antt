@@ -1,6 +1,6 @@
 -- References decoded, by place.
-use Rattle.std.proofs.Common.{◌≡◌, ℕ, zero, suc, ◌+◌, ◌-◌, ◌<◌, ◌≤◌, Bool, true, false, not, List, [], ◌∷◌, ◌++◌, length, get_or, take, drop, append_assoc, sym, refl, ◌∙◌, ap, subst, arith, drop-drop, IsUtf8}
-use Rattle.std.specs.Prelude.{◌==◌, Some, None, Option, slice_range, encode_utf8}
+use Rattle.std.proofs.Common.{◌≡◌, ℕ, zero, suc, ◌+◌, ◌-◌, ◌<◌, ◌≤◌, false, List, [], ◌∷◌, ◌++◌, length, get_or, take, drop, append_assoc, sym, refl, ◌∙◌, ap, subst, arith, drop-drop, IsUtf8}
+use Rattle.std.specs.Prelude.{Some, None, slice_range, encode_utf8}
 use Rattle.std.proofs.lemmas.List.{drop_more}
 use Rattle.std.proofs.lemmas.Bool.Decides.{nat_tests}
 use Rattle.text_base.specs.Text.{run_end, is_not_byte, IsPlace}

@@ -1,12 +1,12 @@
 -- Numbers of any length, kept up to the first that is no character.
-use Rattle.std.proofs.Common.{◌≡◌, ℕ, suc, ◌+◌, ◌*◌, ◌<◌, ◌≤◌, ◌⊎◌, List, [], ◌∷◌, length, get_or, take, sym, refl, ◌∙◌, ap, arith, inl, inr, true, false, Bool, cond, ◌&&◌, eqb, ne_eqb, leb, ltb}
-use Rattle.std.specs.Prelude.{◌==◌, min, fold, Some, None, Option, nat_lt}
+use Rattle.std.proofs.Common.{◌≡◌, ℕ, suc, ◌+◌, ◌*◌, ◌<◌, ◌≤◌, ◌⊎◌, List, [], ◌∷◌, length, get_or, take, sym, refl, ◌∙◌, ap, arith, inl, inr, true, false, Bool, cond, ◌&&◌, ne_eqb, ltb}
+use Rattle.std.specs.Prelude.{min, Some, None, Option, nat_lt}
 use Rattle.std.specs.List.{list_all}
 use Rattle.std.specs.Char.{digit_value}
 use Rattle.std.proofs.lemmas.List.Sums.{fold_more}
 use Rattle.std.proofs.lemmas.Bool.{cases_lt}
 use Rattle.std.proofs.lemmas.Bool.Decides.{nat_tests}
-use Rattle.char_refs.specs.Tables.{given_in, given_for, replaced}
+use Rattle.char_refs.specs.Tables.{given_in, replaced}
 use Rattle.text_base.specs.Words.{is_some}
 use Rattle.char_refs.specs.References.{number, char_of, own_char, or_own, is_digit_in, digits_char}
 

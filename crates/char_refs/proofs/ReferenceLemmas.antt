@@ -1,8 +1,7 @@
 -- Where a reference ends, and what a text without one has.
-use Rattle.std.proofs.Common.{◌≡◌, ℕ, zero, suc, ◌+◌, ◌-◌, ◌<◌, ◌≤◌, Bool, true, false, not, cond, ◌&&◌, ◌||◌, List, [], ◌∷◌, length, get_or, take, drop, sym, refl, ◌∙◌, ap, subst, arith, inl, inr, length-drop, length-take, get_or-drop, get_or-take, drop-drop, ltb}
+use Rattle.std.proofs.Common.{◌≡◌, ℕ, ◌+◌, ◌-◌, ◌<◌, ◌≤◌, Bool, true, false, cond, ◌&&◌, ◌||◌, List, [], ◌∷◌, length, get_or, take, drop, sym, refl, ◌∙◌, ap, subst, arith, inl, inr, length-drop, length-take, get_or-drop, get_or-take, drop-drop, ltb}
 use Rattle.std.specs.Prelude.{◌==◌, Some, None, Option, slice_range}
 use Rattle.std.specs.List.{list_all}
-use Rattle.std.specs.Str.{bytes_eq}
 use Rattle.std.proofs.lemmas.Bool.{cases_lt}
 use Rattle.std.proofs.lemmas.Bool.Decides.{nat_tests}
 use Rattle.std.proofs.lemmas.List.Folds.{list_all_at}
@@ -12,7 +11,7 @@ use Rattle.text_base.specs.Words.{is_some}
 use Rattle.text_base.proofs.Runs.{run_end_is, run_end_passes, run_end_from, run_end_le, run_end_stops}
 use Rattle.char_refs.specs.Kinds.{is_body_byte}
 use Rattle.char_refs.specs.Tables.{names, char_in, char_named}
-use Rattle.char_refs.specs.References.{is_digit_in, digits_char, body_char, with_length, reference_of, char_of, number}
+use Rattle.char_refs.specs.References.{is_digit_in, digits_char, body_char, with_length, reference_of}
 
 both : (a b : Bool) → (a && b) ≡ true → (a ≡ true) × (b ≡ true)
 both true b h = (refl, h)

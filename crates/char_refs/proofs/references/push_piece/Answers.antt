@@ -1,4 +1,4 @@
-use Rattle.std.proofs.Common.{◌+◌, refl, arith}
+use Rattle.std.proofs.Common.{refl, arith}
 use Rattle.char_refs.proofs.DecodingLemmas.{past_sign}
 use Rattle.char_refs.proofs.references.push_piece.Goals as goal
 

@@ -1,4 +1,4 @@
-use Rattle.std.proofs.Common.{◌≡◌, ◌+◌, ◌<◌, get_or, length, refl, arith}
+use Rattle.std.proofs.Common.{◌≡◌, get_or, arith}
 use Rattle.text_base.proofs.Boundaries.{in_text, past_byte}
 use Rattle.char_refs.proofs.ReferenceLemmas.{whole_some, whole_none}
 use Rattle.char_refs.proofs.references.reference.Goals as goal

@@ -1,0 +1,9 @@
+pub mod Attributes
+pub mod Cuts
+pub mod Kinds
+pub mod Lexing
+pub mod Names
+pub mod State
+pub mod Steps
+pub mod Tags
+pub mod Tokens
