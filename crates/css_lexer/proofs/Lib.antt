@@ -1,0 +1,5 @@
+pub mod CommentLemmas
+pub mod ContentLemmas
+pub mod EscapeLemmas
+pub mod SpellLemmas
+pub mod TokenLemmas

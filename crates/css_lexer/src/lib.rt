@@ -1,0 +1,13 @@
+//! The tokens of a selector, after Selectors Level 3, section 10.
+#![tactic(auto)]
+
+mod contents;
+mod escapes;
+mod laws;
+mod lexer;
+mod rules;
+mod tokens;
+
+pub use laws::one_list_or_fault;
+pub use lexer::css_tokens;
+pub use tokens::{CssKind, CssToken};
