@@ -1,0 +1,5 @@
+pub mod ArgumentLemmas
+pub mod GrammarLemmas
+pub mod ListLemmas
+pub mod NthLemmas
+pub mod PlaceLemmas

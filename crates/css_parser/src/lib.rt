@@ -2,5 +2,11 @@
 //! list, then what of it is refused.
 #![tactic(auto)]
 
+mod arguments;
+mod attributes;
+mod grammar;
+mod names;
 mod nth;
 mod pieces;
+mod places;
+mod simples;
