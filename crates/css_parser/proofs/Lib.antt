@@ -3,3 +3,4 @@ pub mod GrammarLemmas
 pub mod ListLemmas
 pub mod NthLemmas
 pub mod PlaceLemmas
+pub mod RefusalLemmas

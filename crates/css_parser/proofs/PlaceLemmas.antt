@@ -8,7 +8,7 @@ use Rattle.std.proofs.lemmas.Option.{slice_get_within, slice_get_cases, slice_ge
 use Rattle.css_lexer.specs.declared.tokens.CssKind.{CssKind}
 use Rattle.css_lexer.specs.declared.tokens.CssKind.TheVariants as kind
 use Rattle.css_lexer.specs.declared.tokens.CssToken.{CssToken}
-use Rattle.css_parser.specs.Places.{code, code_in, code_at, value_in, value_at, stands, is_space, skip}
+use Rattle.css_parser.specs.Places.{code, code_in, code_at, stands, is_space, skip}
 use Rattle.css_parser.specs.Simples.{round_close}
 
 pub code_within : (ts : List CssToken) (i : ℕ) → 0 < code_at ts i → i < length ts
@@ -71,6 +71,6 @@ shown ts i l = elim (slice_get_cases ts i).1 [
     | inr (past, _) ↦ absurd (omega arith)
   ]
 
-pub no_value : (ts : List CssToken) (i : ℕ) → length ts ≤ i → value_at ts i ≡ []
-unfolding value_at
-no_value ts i l = ap value_in (slice_get_past ts i l)
+pub code_end : (ts : List CssToken) (i : ℕ) → length ts ≤ i → code_at ts i ≡ 0
+unfolding code_at
+code_end ts i l = ap code_in (slice_get_past ts i l)

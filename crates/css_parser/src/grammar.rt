@@ -1,5 +1,5 @@
 //! Compounds, selectors and lists, after the grammar of Selectors Level 3, section 10.1.
-ghost use Rattle.std.specs.Prelude.{◌≡◌, ◌++◌, ◌∷◌, [], ◌<◌, ◌≤◌, length, IfOk, Some};
+ghost use Rattle.std.specs.Prelude.{◌≡◌, ◌++◌, ◌∷◌, [], ◌<◌, ◌≤◌, length, IfOk, Some, None};
 ghost use Rattle.css_parser.specs.Grammar as spec;
 ghost use Rattle.css_parser.specs.Simples.{element as element_at};
 ghost use Rattle.css_parser.specs.Reading.{AreInside, EndsLink, IsFormsRead, IsCompoundRead, IsFurtherRead, IsSelectorRead, IsListRead};
@@ -59,17 +59,14 @@ fn behind_element(alloc: Global, text: &str, tokens: &[CssToken], link: Link, at
     })
 }
 
-/// The compound at a place, if one stands there, as long as it goes.
+/// The compound at a place where no element stands, if one stands there.
 #[tactic(auto, using(crate::proofs::GrammarLemmas::without_element, crate::proofs::GrammarLemmas::nothing))]
-fn compound(alloc: Global, text: &str, tokens: &[CssToken], link: Link, at: usize) -> Result<Option<CompoundRead>, NoMemory>
+fn without_element(alloc: Global, text: &str, tokens: &[CssToken], link: Link, at: usize) -> Result<Option<CompoundRead>, NoMemory>
     requires inside { AreInside text.now tokens.now }
     requires within { at ≤ length tokens.now }
+    requires stands { element_at tokens.now at ≡ None }
     ensures { IfOk result (IsCompoundRead text.now tokens.now link at) }
 {
-    if let Some(element) = element(alloc, tokens, at)? {
-        let read = behind_element(alloc, text, tokens, link, at, element)?;
-        return Ok(Some(read));
-    }
     let read = simples(alloc, text, tokens, at)?;
     if read.forms.is_empty() {
         return Ok(None);
@@ -83,6 +80,21 @@ fn compound(alloc: Global, text: &str, tokens: &[CssToken], link: Link, at: usiz
         },
         end: read.end,
     }))
+}
+
+/// The compound at a place, if one stands there, as long as it goes.
+fn compound(alloc: Global, text: &str, tokens: &[CssToken], link: Link, at: usize) -> Result<Option<CompoundRead>, NoMemory>
+    requires inside { AreInside text.now tokens.now }
+    requires within { at ≤ length tokens.now }
+    ensures { IfOk result (IsCompoundRead text.now tokens.now link at) }
+{
+    match element(alloc, tokens, at)? {
+        Some(element) => {
+            let read = behind_element(alloc, text, tokens, link, at, element)?;
+            Ok(Some(read))
+        }
+        None => without_element(alloc, text, tokens, link, at),
+    }
 }
 
 /// The link, and the first place from a place on at which no Space stands.
@@ -133,7 +145,7 @@ fn further(alloc: Global, text: &str, tokens: &[CssToken], at: usize) -> Result<
 }
 
 /// The selector at a place, if one stands there, as long as it goes.
-#[tactic(auto, using(crate::proofs::GrammarLemmas::selector_one, crate::proofs::GrammarLemmas::selector_push, crate::proofs::GrammarLemmas::selector_end))]
+#[tactic(auto, using(crate::proofs::GrammarLemmas::selector_begun, crate::proofs::GrammarLemmas::selector_push))]
 fn selector(alloc: Global, text: &str, tokens: &[CssToken], from: usize) -> Result<Option<SelectorRead>, NoMemory>
     requires inside { AreInside text.now tokens.now }
     requires within { from ≤ length tokens.now }

@@ -5,8 +5,10 @@
 mod arguments;
 mod attributes;
 mod grammar;
+mod lists;
 mod names;
 mod nth;
 mod pieces;
 mod places;
+mod refusals;
 mod simples;
