@@ -1,4 +1,5 @@
 pub mod ArgumentLemmas
+pub mod CopyLemmas
 pub mod GrammarLemmas
 pub mod ListLemmas
 pub mod NthLemmas
