@@ -1,7 +1,9 @@
 pub mod ArgumentLemmas
 pub mod CopyLemmas
+pub mod Fitting
 pub mod GrammarLemmas
 pub mod ListLemmas
 pub mod NthLemmas
 pub mod PlaceLemmas
 pub mod RefusalLemmas
+pub mod WellMadeLemmas
