@@ -27,7 +27,7 @@ use Rattle.css_parser.specs.Names.{first_or_last, pseudo_called, pseudo_piece, p
 use Rattle.css_parser.specs.Nth.{nth}
 use Rattle.css_parser.specs.Simples as s
 use Rattle.css_parser.specs.Reading.{IsBehind}
-use Rattle.css_parser.proofs.PlaceLemmas.{code_within, skip_order}
+use Rattle.css_parser.proofs.PlaceLemmas.{code_within, skip_order, stands_within}
 
 -- what a test keeps in itself
 abbrev pub FitsAlone : Bool → Test → Type 0
@@ -47,9 +47,6 @@ pub record IsGood (ts : List CssToken) (i : ℕ) (negated : Bool) (p : Piece) (j
 abbrev Good : List CssToken → ℕ → Bool → Option Read → Type 0
 Good ts i negated None = Unit {0}
 Good ts i negated (Some r) = IsGood ts i negated r.piece r.end
-
-stands_within : (ts : List CssToken) (i n : ℕ) → 0 < n → (code_at ts i == n) ≡ true → i < length ts
-stands_within ts i n some h = code_within ts i (let e : 0 < code_at ts i = grind (arith, nat_tests) in e)
 
 either_within : (ts : List CssToken) (i m n : ℕ) → 0 < m → 0 < n → ((code_at ts i == m) || (code_at ts i == n)) ≡ true → i < length ts
 either_within ts i m n a b h = code_within ts i (let e : 0 < code_at ts i = grind (arith, nat_tests) in e)

@@ -6,4 +6,5 @@ pub mod ListLemmas
 pub mod NthLemmas
 pub mod PlaceLemmas
 pub mod RefusalLemmas
+pub mod SelectingLemmas
 pub mod WellMadeLemmas

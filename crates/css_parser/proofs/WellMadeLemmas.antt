@@ -8,6 +8,7 @@ use Rattle.css_lexer.proofs.EscapeLemmas.{cases_if}
 use Rattle.css_lexer.proofs.TokenPlaces.{few_tokens}
 use Rattle.css_lexer.specs.declared.tokens.CssKind.TheVariants as kind
 use Rattle.css_lexer.specs.declared.tokens.CssToken.{CssToken}
+use Rattle.css_lexer.specs.Tokens.{Lexes}
 use Rattle.text_base.specs.declared.reasons.SelectorFault.{SelectorFault}
 use Rattle.css_meaning.specs.declared.selector.Link.{Link}
 use Rattle.css_meaning.specs.declared.selector.Link.TheVariants as link
@@ -30,14 +31,14 @@ use Rattle.css_parser.specs.declared.pieces.Form.{Form}
 use Rattle.css_parser.specs.declared.pieces.Compound.{Compound}
 use Rattle.css_parser.specs.declared.pieces.ElementRead.{ElementRead}
 use Rattle.css_parser.specs.declared.pieces.LinkRead.{LinkRead}
-use Rattle.css_parser.specs.Places.{stands, skip}
+use Rattle.css_parser.specs.Places.{code_at, stands, skip}
 use Rattle.css_parser.specs.Simples.{element, simple, form_read}
 use Rattle.css_parser.specs.Grammar.{Simples, HasElement, past_element, IsCompound, linked, combinator, Further, IsSelector, Others, From, Reads}
 use Rattle.css_parser.specs.Refusals.{or_else, if_refused, is_none, is_empty, is_of_type, needs_element, is_only_of_type, form_refusal, piece_refusal, forms_refusal, compound_refusal, selector_refusal, refusal}
 use Rattle.css_parser.specs.Lists.{form_simples, simples_by, part_of, selector_of, list_of}
 use Rattle.css_parser.specs.Selecting.{Accepts}
 use Rattle.css_parser.specs.Reading.{IsBehind}
-use Rattle.css_parser.proofs.PlaceLemmas.{skip_order}
+use Rattle.css_parser.proofs.PlaceLemmas.{skip_order, skip_within, stands_within}
 use Rattle.css_parser.proofs.Fitting.{FitsAlone, FitsPiece, IsGood, simple_good, element_behind}
 
 -- nothing is refused of either
@@ -156,6 +157,7 @@ module _ (text : List ℕ) (ts : List CssToken) where
   record IsJoined (i : ℕ) (r : LinkRead) : Type 0 where
     other : r.link ≢ link.First
     order : i ≤ r.end
+    within : i ≤ length ts → r.end ≤ length ts
 
   some_link : (r l : LinkRead) → Some r ≡ Some l → r ≡ l
   some_link r l e = cc
@@ -168,14 +170,15 @@ module _ (text : List ℕ) (ts : List CssToken) where
   joined i r =
       let j = skip ts i in
       let low = skip_order ts i in let more = skip_order ts (j + 1) in
+      let behind : (n : ℕ) → 0 < n → (code_at ts j == n) ≡ true → skip ts (j + 1) ≤ length ts = λ n some h. skip_within ts (j + 1) (let k = stands_within ts j n some h in omega arith) in
       cases_if (stands kind.Greater ts j) (Some (linked ts link.Child (j + 1))) _ (Joins i r)
-      (λ _ e. subst (IsJoined i) (some_link (linked ts link.Child (j + 1)) r e) (record { other = λ f. cc; order = omega arith }))
+      (λ h e. subst (IsJoined i) (some_link (linked ts link.Child (j + 1)) r e) (record { other = λ f. cc; order = omega arith; within = λ _. behind 21 (omega arith) h }))
       (λ _. cases_if (stands kind.Plus ts j) (Some (linked ts link.Next (j + 1))) _ (Joins i r)
-      (λ _ e. subst (IsJoined i) (some_link (linked ts link.Next (j + 1)) r e) (record { other = λ f. cc; order = omega arith }))
+      (λ h e. subst (IsJoined i) (some_link (linked ts link.Next (j + 1)) r e) (record { other = λ f. cc; order = omega arith; within = λ _. behind 20 (omega arith) h }))
       (λ _. cases_if (stands kind.Tilde ts j) (Some (linked ts link.Later (j + 1))) _ (Joins i r)
-      (λ _ e. subst (IsJoined i) (some_link (linked ts link.Later (j + 1)) r e) (record { other = λ f. cc; order = omega arith }))
+      (λ h e. subst (IsJoined i) (some_link (linked ts link.Later (j + 1)) r e) (record { other = λ f. cc; order = omega arith; within = λ _. behind 22 (omega arith) h }))
       (λ _. cases_if (nat_lt i j) (Some (linked ts link.Descendant i)) None (Joins i r)
-      (λ _ e. subst (IsJoined i) (some_link (linked ts link.Descendant i) r e) (record { other = λ f. cc; order = omega arith }))
+      (λ _ e. subst (IsJoined i) (some_link (linked ts link.Descendant i) r e) (record { other = λ f. cc; order = omega arith; within = λ l. skip_within ts i l }))
       (λ _ e. cc))))
 
   abbrev part_size : Part → ℕ
@@ -192,7 +195,60 @@ module _ (text : List ℕ) (ts : List CssToken) where
 
   rest : (i j : ℕ) (cs : List Compound) → i ≤ length ts → Further text ts i cs j → selector_refusal cs ≡ None → Rest cs i j
   rest i j [] l h r = record { links = All-nil IsOther; parts = All-nil made.IsPart; size = omega arith; within = omega arith }
-  rest i j (c ∷ cs) l h r = ?
+  rest i j (c ∷ cs) l h r =
+      let parts = neither (compound_refusal (is_empty cs) c) (selector_refusal cs) r in
+      let join = joined i _ h.2 in
+      let first = size h.0 h.1 c (join.within l) h.3 in
+      let more = rest h.1 j cs first.within h.4 parts.other in
+      let low = join.order in let here = first.size in let there = more.size in let few = few_simples c.forms in
+      record {
+        links = All-cons IsOther (part_of c) (map part_of cs) join.other more.links;
+        parts = All-cons made.IsPart (part_of c) (map part_of cs) (part_fits (is_empty cs) h.0 h.1 c h.3 parts.first) more.parts;
+        size = omega (arith, sum_by-cons part_size (part_of c) (map part_of cs));
+        within = more.within;
+      }
 
-  few_bytes : (text : List ℕ) → ℕ
-  few_bytes text = 0
+  selector_made : (i j : ℕ) (cs : List Compound) → length ts ≤ 16384 → i ≤ length ts → IsSelector text ts i cs j → selector_refusal cs ≡ None → made.IsSelector (selector_of cs)
+  selector_made i j [] few l h r = absurd h
+  selector_made i j (c ∷ cs) few l h r =
+      let parts = neither (compound_refusal (is_empty cs) c) (selector_refusal cs) r in
+      let first = size i h.0 c l h.2 in
+      let more = rest h.0 j cs first.within h.3 parts.other in
+      let here = first.size in let there = more.size in let fewer = few_simples c.forms in let end = more.within in
+      record {
+        links = (h.1, more.links);
+        parts = All-cons made.IsPart (part_of c) (map part_of cs) (part_fits (is_empty cs) i h.0 c h.2 parts.first) more.parts;
+        size = omega (arith, sum_by-cons part_size (part_of c) (map part_of cs));
+      }
+
+  selector_end : (i j : ℕ) (cs : List Compound) → i ≤ length ts → IsSelector text ts i cs j → selector_refusal cs ≡ None → j ≤ length ts
+  selector_end i j [] l h r = absurd h
+  selector_end i j (c ∷ cs) l h r =
+      let parts = neither (compound_refusal (is_empty cs) c) (selector_refusal cs) r in
+      (rest h.0 j cs (size i h.0 c l h.2).within h.3 parts.other).within
+
+  others_made : (i : ℕ) (ss : List (List Compound)) → length ts ≤ 16384 → Others text ts i ss → refusal ss ≡ None → All made.IsSelector (map selector_of ss)
+  others_made i [] few h r = All-nil made.IsSelector
+  others_made i (s ∷ ss) few h r =
+      let parts = neither (selector_refusal s) (refusal ss) r in
+      let inside = stands_within ts i 19 (omega arith) h.1 in
+      let start = skip_within ts (i + 1) (omega arith) in
+      All-cons made.IsSelector (selector_of s) (map selector_of ss) (selector_made (skip ts (i + 1)) h.0 s few start h.2 parts.first) (others_made (skip ts h.0) ss few h.3 parts.other)
+
+  list_made : (ss : List (List Compound)) → length ts ≤ 16384 → Reads text ts ss → refusal ss ≡ None → WellMade (list_of ss)
+  list_made [] few h r = absurd h
+  list_made (s ∷ ss) few h r =
+      let parts = neither (selector_refusal s) (refusal ss) r in
+      record {
+        some = omega arith;
+        each = All-cons made.IsSelector (selector_of s) (map selector_of ss) (selector_made (skip ts 0) h.0 s few (skip_within ts 0 (omega arith)) h.1 parts.first) (others_made (skip ts h.0) ss few h.2 parts.other);
+      }
+
+pub well_made : (text : List ℕ) (list : SelectorList) → Accepts text list → WellMade list
+well_made text list h = subst WellMade (sym h.is_list) (list_made text h.tokens h.found (few_tokens text h.tokens h.spelled) h.reads h.allowed)
+
+-- the same, where each list was looked at as a slice
+pub made_of : (text : List ℕ) (ts us : List CssToken) (found vs ws : List (List Compound)) (o : Option SelectorFault) (list : SelectorList)
+    → Lexes text ts → us ≡ ts → Reads text us found → vs ≡ found → ((o ≡ refusal vs) × (o ≡ None)) → ws ≡ found → list ≡ list_of ws → WellMade list
+made_of text ts us found vs ws o list h e g d r f is =
+    well_made text list (record { tokens = ts; spelled = h; found = found; reads = subst (λ x. Reads text x found) e g; allowed = ap refusal (sym d) ∙ sym r.0 ∙ r.1; is_list = is ∙ ap list_of f })
