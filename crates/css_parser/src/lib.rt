@@ -1,0 +1,19 @@
+//! The grammar of selectors, after Selectors Level 3, section 10: tokens, then what stands in a
+//! list, then what of it is refused.
+#![tactic(auto)]
+
+mod arguments;
+mod attributes;
+mod grammar;
+mod laws;
+mod lists;
+mod names;
+mod nth;
+mod parsing;
+mod pieces;
+mod places;
+mod refusals;
+mod simples;
+
+pub use laws::one_list_or_fault;
+pub use parsing::parse_selectors;
