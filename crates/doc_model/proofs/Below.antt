@@ -1,8 +1,8 @@
 -- Rows below rows: an order that the parents make.
-use Rattle.std.proofs.Common.{◌≡◌, ℕ, zero, suc, ◌+◌, ◌-◌, ◌<◌, ◌≤◌, List, [], ◌∷◌, ◌++◌, length, Bool, true, false, ◌&&◌, ◌||◌, eqb, ltb, cond, refl, sym, ◌∙◌, ap, subst, arith, inl, inr, ◌⊎◌, lt-ltb}
-use Rattle.std.proofs.lemmas.Bool.{or_cases, or_left, or_right, and_parts, and_from, cases_lt, cases_eq, eqb-true, eq-eqb, ltb-true, false_from_ne_true, both_ways, cases_Bool}
-use Rattle.std.proofs.lemmas.List.{get_or_past, get_or_append_left, length-append}
-use Rattle.doc_model.specs.Document.{Row, Document, no_row, row, below_within, below, IsRow, IsDocument}
+use Rattle.std.proofs.Common.{◌≡◌, ℕ, zero, suc, ◌+◌, ◌-◌, ◌<◌, ◌≤◌, length, true, false, ◌&&◌, ◌||◌, eqb, ltb, refl, sym, ◌∙◌, ap, subst, arith, inl, inr, ◌⊎◌, lt-ltb}
+use Rattle.std.proofs.lemmas.Bool.{or_cases, or_left, or_right, cases_lt, le-ltb, eqb-true, eq-eqb, false_from_ne_true, both_ways}
+use Rattle.std.proofs.lemmas.List.{get_or_past}
+use Rattle.doc_model.specs.Document.{Row, Document, no_row, row, below_within, below, IsDocument}
 use Rattle.doc_model.specs.Ends.{IsEnd}
 
 -- parents are smaller
@@ -83,8 +83,8 @@ trans_within (suc n) doc x y z m l h k =
     let some : 0 < z = below_some doc y z k in
     let less : (row doc z).parent < z = m z some in
     elim (below_cases doc y z m k) [
-      inl e ↦ below_up doc x z m some (subst (λ v. below doc x v ≡ true) (sym e) h)
-    | inr b ↦ below_up doc x z m some (trans_within n doc x y (row doc z).parent m (omega arith) h b)
+      | inl e ↦ below_up doc x z m some (subst (λ v. below doc x v ≡ true) (sym e) h)
+      | inr b ↦ below_up doc x z m some (trans_within n doc x y (row doc z).parent m (omega arith) h b)
     ]
 
 pub below_trans : (doc : Document) (x y z : ℕ) → Small doc → below doc x y ≡ true → below doc y z ≡ true → below doc x z ≡ true
@@ -156,3 +156,10 @@ past_end doc i e y d end h l = let s : e + (y - e) ≡ y = omega arith in subst 
 
 pub before_end : (doc : Document) (i e y : ℕ) → IsDocument doc → IsEnd doc i e → y < length doc → below doc i y ≡ true → y < e
 before_end doc i e y d end l h = elim (cases_lt y e) [ inl k ↦ k | inr k ↦ absurd (both_ways _ (past_end doc i e y d end k l) h) ]
+
+-- the end of a row tells what is below it
+pub below_by_end : (doc : Document) (i e y : ℕ) → IsDocument doc → IsEnd doc i e → i < y → y < length doc → ltb y e ≡ below doc i y
+below_by_end doc i e y d end h l = elim (cases_lt y e) [ inl k ↦ lt-ltb y e k ∙ sym (end.inside y h k) | inr k ↦ le-ltb y e k ∙ sym (past_end doc i e y d end k l) ]
+
+pub not_up : (doc : Document) (x y : ℕ) → Small doc → y ≤ x → below doc x y ≡ false
+not_up doc x y m l = false_from_ne_true _ (λ h. let k : x < y = below_less doc x y m h in omega arith)

@@ -1,13 +1,12 @@
 -- A document with one row more is a document.
-use Rattle.std.proofs.Common.{◌≡◌, ℕ, zero, suc, ◌+◌, ◌-◌, ◌<◌, ◌≤◌, List, [], ◌∷◌, ◌++◌, length, Bool, true, false, ◌&&◌, ◌||◌, eqb, ltb, refl, sym, ◌∙◌, ap, subst, arith, inl, inr, ◌⊎◌, lt-ltb}
-use Rattle.std.specs.Prelude.{◌≢◌, IsTrue}
-use Rattle.std.proofs.lemmas.Bool.{or_cases, or_left, or_right, cases_lt, cases_eq, eqb-true, eq-eqb}
-use Rattle.std.proofs.lemmas.List.{get_or_past, get_or_push, get_or_append_left, length-append, length_push}
-use Rattle.doc_model.specs.declared.Kind.{Kind}
+use Rattle.std.proofs.Common.{◌≡◌, ℕ, zero, suc, ◌-◌, ◌<◌, ◌≤◌, List, [], ◌∷◌, ◌++◌, length, true, ◌&&◌, ◌||◌, eqb, ltb, refl, sym, ◌∙◌, ap, subst, arith, inl, inr, ◌⊎◌}
+use Rattle.std.specs.Prelude.{◌≢◌}
+use Rattle.std.proofs.lemmas.Bool.{or_cases, or_left, or_right, cases_lt, eqb-true, eq-eqb}
+use Rattle.std.proofs.lemmas.List.{get_or_past, get_or_push, get_or_append_left, length_push}
 use Rattle.doc_model.specs.declared.Kind.TheVariants.{Root, Element, Attribute, Text, Comment}
-use Rattle.doc_model.specs.Document.{Row, Document, no_row, row, is_attribute_kind, is_attribute, is_parent, below, IsLastChildBefore, IsRow, IsDocument}
+use Rattle.doc_model.specs.Document.{Row, Document, no_row, row, is_attribute_kind, below, IsLastChildBefore, IsRow, IsDocument}
 use Rattle.doc_model.specs.Growing.{Growing, growing, fresh, innermost, element_row, attr_row, text_row, comment_row, with_row, with_element, with_attr, with_text, with_comment, with_close, rest_of, AwaitsAttr, AwaitsText, IsChain, IsGrowing}
-use Rattle.doc_model.proofs.Below.{Small, SameBelow, small, below_same, below_parent, below_up, below_trans}
+use Rattle.doc_model.proofs.Below.{Small, SameBelow, small, below_same, below_parent, below_trans}
 
 pub pushed_same : (doc : Document) (r : Row) → SameBelow (length doc) doc (doc ++ r ∷ [])
 pushed_same doc r k l = get_or_append_left doc (r ∷ []) no_row k l
@@ -54,8 +53,8 @@ document_push doc r d new = record {
   some = omega (arith, length_push doc r);
   root = pushed_same doc r 0 d.some ∙ d.root;
   rest = λ i p l. elim (cases_lt i (length doc)) [
-    inl h ↦ row_same (length doc) doc (doc ++ r ∷ []) i (small doc d) (pushed_same doc r) p h (d.rest i p h)
-  | inr h ↦ (let e : length doc ≡ i = omega (arith, length_push doc r) in subst (IsRow (doc ++ r ∷ [])) e new)
+    | inl h ↦ row_same (length doc) doc (doc ++ r ∷ []) i (small doc d) (pushed_same doc r) p h (d.rest i p h)
+    | inr h ↦ (let e : length doc ≡ i = omega (arith, length_push doc r) in subst (IsRow (doc ++ r ∷ [])) e new)
   ];
 }
 
@@ -155,9 +154,9 @@ grown_comment g text w =
 -- what is at a row or below it is below the row's parent
 pub above_last : (doc : Document) (n e : ℕ) → Small doc → 0 < n → ((eqb n e) || below doc n e) ≡ true → below doc (row doc n).parent e ≡ true
 above_last doc n e m some h = elim (or_cases _ _ h) [
-    inl s ↦ subst (λ v. below doc (row doc n).parent v ≡ true) (eqb-true _ _ s) (below_parent doc _ n m some refl)
+  | inl s ↦ subst (λ v. below doc (row doc n).parent v ≡ true) (eqb-true _ _ s) (below_parent doc _ n m some refl)
   | inr b ↦ below_trans doc (row doc n).parent n e m (below_parent doc _ n m some refl) b
-  ]
+]
 
 closed : (rows : Document) (ns : List ℕ) → ns ≢ [] → IsGrowing (growing rows ns) → IsGrowing (growing rows (rest_of ns))
 closed rows [] some w = absurd (some refl)

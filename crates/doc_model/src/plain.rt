@@ -1,0 +1,84 @@
+//! Axes that are walked.
+ghost use Rattle.std.specs.Prelude.{◌≡◌, ◌<◌, ℕ, [], length};
+
+use crate::axes::Axes;
+use crate::tree::Tree;
+use crate::walks::{across_count, across_into, is_reverse, is_upward, up_count, up_into};
+use crate::{Axis, Kind, NodeTest};
+use text_base::NoMemory;
+
+/// A document whose axes are walked, row by row, over what may be on the axis.
+#[derive(Drop)]
+pub struct Plain<T> {
+    tree: T,
+}
+
+impl<T: Tree + Drop> Plain<T> {
+    /// Keeps the tree's document. It takes no memory.
+    pub fn new(tree: T) -> Plain<T>
+        ensures { ⟦<Plain<T> as Tree>⟧.document result ≡ T.document tree }
+    {
+        Plain { tree }
+    }
+}
+
+impl<T: Tree> Tree for Plain<T> {
+    ghost document = { λ p. T.document p.tree };
+
+    ghost is_document = { λ p. T.is_document p.tree };
+
+    ghost is_small = { λ p. T.is_small p.tree };
+
+    fn len(&self) -> u32 {
+        self.tree.len()
+    }
+
+    fn kind(&self, i: u32) -> Kind {
+        self.tree.kind(i)
+    }
+
+    fn name(&self, i: u32) -> &str {
+        self.tree.name(i)
+    }
+
+    fn text(&self, i: u32) -> &str {
+        self.tree.text(i)
+    }
+
+    fn parent(&self, i: u32) -> u32 {
+        self.tree.parent(i)
+    }
+
+    fn end(&self, i: u32) -> u32 {
+        self.tree.end(i)
+    }
+}
+
+impl<T: Tree> Axes for Plain<T> {
+    fn axis_into(
+        &self,
+        x: u32,
+        axis: Axis,
+        test: &NodeTest,
+        out: &mut Vec<u32>,
+    ) -> Result<(), NoMemory> {
+        if is_upward(axis) {
+            return up_into(&self.tree, x, axis, test, out);
+        }
+        let walked = across_into(&self.tree, x, axis, test, out);
+        if is_reverse(axis) {
+            match walked {
+                Ok(()) => out.reverse(),
+                Err(_) => out.clear(),
+            }
+        }
+        walked
+    }
+
+    fn axis_count(&self, x: u32, axis: Axis, test: &NodeTest) -> u32 {
+        if is_upward(axis) {
+            return up_count(&self.tree, x, axis, test);
+        }
+        across_count(&self.tree, x, axis, test)
+    }
+}
