@@ -1,0 +1,16 @@
+pub mod PlaceLemmas
+pub mod RowLemmas
+pub mod WordLemmas
+pub mod FitLemmas
+pub mod PageLemmas
+pub mod StepLemmas
+pub mod CalmLemmas
+pub mod AttrLemmas
+pub mod SoundLemmas
+pub mod TestLemmas
+pub mod Witness
+pub mod TextLemmas
+pub mod RoomLemmas
+pub mod LawLemmas
+pub mod PieceLemmas
+pub mod ReadLemmas

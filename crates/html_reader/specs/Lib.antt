@@ -1,0 +1,17 @@
+pub mod Children
+pub mod Forest
+pub mod Kept
+pub mod Laws
+pub mod Machine
+pub mod Parents
+pub mod Pieces
+pub mod Places
+pub mod Reached
+pub mod Reading
+pub mod Rows
+pub mod States
+pub mod Tables
+pub mod Taking
+pub mod Tokens
+pub mod Views
+pub mod Words
