@@ -1,5 +1,5 @@
 -- Tokens read one by one.
-use Rattle.std.proofs.Common.{◌≡◌, ℕ, zero, suc, ◌+◌, ◌≤◌, List, [], ◌∷◌, ◌++◌, length, Bool, true, false, cond, sym, refl, ◌∙◌, ap, subst, arith, Option, Some, None, Ok, Err, length-append}
+use Rattle.std.proofs.Common.{◌≡◌, ℕ, zero, suc, ◌+◌, ◌≤◌, List, [], ◌∷◌, ◌++◌, length, Bool, true, false, cond, sym, refl, ◌∙◌, ap, subst, arith, Option, Some, None, Ok, Err, length-append, inl, inr}
 use Rattle.std.specs.Prelude.{Result, ◌≢◌}
 use Rattle.text_base.specs.declared.reasons.PageReason.{PageReason}
 use Rattle.text_base.specs.declared.reasons.PageReason.TheVariants.{Unclosed, NoRoot}
@@ -13,8 +13,11 @@ use Rattle.html_reader.specs.Words.{is_shut}
 use Rattle.html_reader.specs.Machine.{State, state, step, shuts, after_shuts, closing, is_empty}
 use Rattle.html_reader.specs.Reading.{Builds, Refuses}
 use Rattle.html_reader.specs.Reached.{Reached, IsReached, IsSome, state_at}
-use Rattle.html_reader.specs.States.{IsSound, most_rows}
-use Rattle.html_reader.specs.Taking.{LeadsTo, IsLed, size}
+use Rattle.html_reader.specs.States.{IsSound, tok_of, Steps}
+use Rattle.html_reader.specs.Taking.{LeadsTo, IsLed, size, Takes}
+use Rattle.html_reader.specs.declared.token.Token.{Token}
+use Rattle.text_base.specs.declared.reasons.PageFault.{PageFault}
+use Rattle.html_reader.proofs.RoomLemmas.{step_room}
 use Rattle.html_reader.proofs.PlaceLemmas.{put}
 use Rattle.html_reader.proofs.StepLemmas.{reach_shuts, reach_token, reach_refused, reach_leads}
 use Rattle.html_reader.proofs.SoundLemmas.{reached_sound}
@@ -112,3 +115,17 @@ builds old mid doc is none rooted made tokens led =
       rooted = ap (λ (s : State). s.rooted) r.0.state ∙ ap (λ (s : State). s.rooted) (sym is) ∙ rooted;
       made = ap (λ (s : State). s.grown.sofar.rows) r.0.state ∙ ap (λ (s : State). s.grown.sofar.rows) (sym is) ∙ sym made;
     }
+
+-- a step after the ends that the token inserts
+pub takes : (old mid new : State) (t : Token) (r : Result (Unit {0}) PageFault) → mid ≡ shuts (Some (tok_of t)) old → Steps mid t r new → Takes old t r new
+takes old mid new t (Ok u) is h = (takes_token old mid new (tok_of t) is h, omega (arith, step_room mid (tok_of t) new h, mid_size (Some (tok_of t)) old mid is))
+takes old mid new t (Err fault) is (inl memory) = inl memory
+takes old mid new t (Err fault) is (inr refused) = inr (refused.1, refuses_token old mid (tok_of t) fault.reason is refused.0)
+
+-- where no element is open, no row is
+pub none_open : (s : State) → IsSound s → is_empty s.tags ≡ true → s.grown.open_rows ≡ []
+none_open s h none = nil_of s.grown.open_rows (omega (arith, h.level, ap length (no_tags s.tags none)))
+  where
+    nil_of : (ns : List ℕ) → length ns ≡ 0 → ns ≡ []
+    nil_of [] e = refl
+    nil_of (n ∷ ns) e = absurd (omega (arith, e))

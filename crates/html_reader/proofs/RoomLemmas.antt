@@ -10,10 +10,8 @@ use Rattle.doc_model.specs.Growing.{innermost}
 use Rattle.html_reader.specs.Machine.{State, step, opened, held, closed, is_named, is_empty, without_first}
 use Rattle.html_reader.specs.Forest.{is_white_leaf}
 use Rattle.html_reader.specs.States.{most_rows}
+use Rattle.html_reader.specs.Taking.{size}
 use Rattle.html_reader.proofs.StepLemmas.{guard_ok, same_ok}
-
-abbrev pub size : State → ℕ
-size s = length s.grown.sofar.rows + length s.tags
 
 few : (p : ℕ) (waits : List ℕ) → length (text_rows p waits) ≤ 1
 few zero waits = omega arith

@@ -7,6 +7,8 @@ ghost use Rattle.html_reader.specs.Places.{below};
 ghost use Rattle.doc_model.specs.Growing.{innermost};
 ghost use Rattle.html_reader.specs.Machine.{state, settled, held, opened, closed, shuts, is_empty, is_named};
 ghost use Rattle.html_reader.specs.Reached.{IsReached};
+ghost use Rattle.html_reader.specs.Taking.{LeadsTo, IsLed, Takes, AllBuild, EndRefused, size};
+ghost use Rattle.doc_model.specs.Growing.{fresh as root_alone};
 ghost use Rattle.html_reader.specs.Kept.{AreKept, EndsInElement};
 ghost use Rattle.html_reader.specs.Pieces.{owned_bytes};
 ghost use Rattle.doc_model.specs.Growing.{growing};
@@ -299,6 +301,57 @@ impl<'p, G: Grow<'p> + Drop> Reader<'p, G> {
                 Ok(())
             }
             Token::Doctype { from: _ } => Ok(()),
+        }
+    }
+
+    /// Before the first token.
+    fn new(alloc: Global, grow: G) -> Reader<'p, G>
+        requires { G.growing grow ≡ root_alone }
+        ensures led { LeadsTo [] (the_state result.tags.items result.rooted (G.growing result.grow) (owned_bytes result.waits)) }
+        ensures size { size (the_state result.tags.items result.rooted (G.growing result.grow) (owned_bytes result.waits)) ≡ 1 }
+    {
+        Reader {
+            alloc,
+            tags: Vec::new(alloc),
+            rooted: false,
+            grow,
+            waits: Owned::Page(""),
+        }
+    }
+
+    /// Reads the next token.
+    fn take(&mut self, token: Token<'p>) -> Result<(), PageFault>
+        requires led { IsLed (the_state self.old.tags.items self.old.rooted (G.growing self.old.grow) (owned_bytes self.old.waits)) }
+        requires kept { IsKept (tok_of token) }
+        requires room { size (the_state self.old.tags.items self.old.rooted (G.growing self.old.grow) (owned_bytes self.old.waits)) + most_rows (tok_of token) + 1 < 2 ^ 32 }
+        ensures { Takes (the_state self.old.tags.items self.old.rooted (G.growing self.old.grow) (owned_bytes self.old.waits)) token.entry result (the_state self.new.tags.items self.new.rooted (G.growing self.new.grow) (owned_bytes self.new.waits)) }
+    {
+        if self.shut_ends(Some(&token)).is_err() {
+            return Err(fault(PageReason::Memory, 0));
+        }
+        self.step(token)
+    }
+
+    /// Reads the end of the text, which is its place.
+    fn finish(mut self, end: usize) -> Result<G::Done, PageFault>
+        requires led { IsLed (the_state self.tags.items self.rooted (G.growing self.grow) (owned_bytes self.waits)) }
+        requires room { size (the_state self.tags.items self.rooted (G.growing self.grow) (owned_bytes self.waits)) + 1 < 2 ^ 32 }
+        ensures ok { IfOk result (λ done. AllBuild (the_state self.entry.tags.items self.entry.rooted (G.growing self.entry.grow) (owned_bytes self.entry.waits)) (G.Done.document done)) }
+        ensures err { IfErr result (λ fault. EndRefused (the_state self.entry.tags.items self.entry.rooted (G.growing self.entry.grow) (owned_bytes self.entry.waits)) end fault) }
+    {
+        if self.shut_ends(None).is_err() {
+            return Err(fault(PageReason::Memory, 0));
+        }
+        if !self.has_none() {
+            return Err(fault(PageReason::Unclosed, end));
+        }
+        if !self.rooted {
+            return Err(fault(PageReason::NoRoot, end));
+        }
+        let Reader { grow, .. } = self;
+        match grow.finish() {
+            Ok(done) => Ok(done),
+            Err(_) => Err(fault(PageReason::Memory, 0)),
         }
     }
 }
