@@ -14,3 +14,5 @@ pub mod RoomLemmas
 pub mod LawLemmas
 pub mod PieceLemmas
 pub mod ReadLemmas
+pub mod ContentLemmas
+pub mod KeptLemmas

@@ -1,4 +1,5 @@
 pub mod Children
+pub mod Contents
 pub mod Forest
 pub mod Kept
 pub mod Laws

@@ -1,6 +1,7 @@
 //! Trees of pages.
 #![tactic(auto)]
 
+mod contents;
 mod laws;
 mod owned;
 mod reader;
