@@ -7,18 +7,18 @@ use Rattle.html_reader.proofs.CalmLemmas.{within_flushed}
 use Rattle.std.proofs.lemmas.List.{get_or_append_left, map-append, length-map, take_more}
 use Rattle.html_reader.specs.declared.token.Attr as code
 use Rattle.doc_model.specs.declared.Kind.{Kind}
-use Rattle.doc_model.specs.declared.Kind.TheVariants.{Root, Element, Attribute}
+use Rattle.doc_model.specs.declared.Kind.TheVariants.{Element, Attribute}
 use Rattle.doc_model.specs.Document.{Row, Document, row, is_attribute, is_attribute_kind, no_row}
 use Rattle.html_reader.specs.Tokens.{Attr, Tag, comment}
 use Rattle.html_reader.specs.Rows.{sofar, flushed, text_rows, row_of_text, row_of_element, row_of_attribute, row_of_comment, tag_rows}
 use Rattle.html_reader.specs.Places.{Grown, below}
 use Rattle.doc_model.specs.Growing.{innermost}
 use Rattle.html_reader.specs.Machine.{held, settled, state, opened, closed, without_first}
-use Rattle.doc_model.specs.Growing.{Growing, growing, with_attr, with_text, with_comment, with_element, with_close, rest_of, with_row, AwaitsAttr}
+use Rattle.doc_model.specs.Growing.{Growing, growing, with_attr, with_text, with_comment, with_element, with_close, rest_of, AwaitsAttr}
 use Rattle.html_reader.specs.Kept.{IsNew, AreKept, EndsInElement}
 use Rattle.html_reader.specs.Pieces.{owned_bytes}
 use Rattle.std.specs.Str.{chars}
-use Rattle.html_reader.specs.States.{attr_of, tag_of, tags_onto, grown_of, the_state, IsSound}
+use Rattle.html_reader.specs.States.{attr_of, tag_of, tags_onto, grown_of, the_state}
 use Rattle.html_reader.specs.declared.token.StartTag.{StartTag}
 
 new_at : (name : List ℕ) (attrs : List code.Attr) (k : ℕ) (d : code.Attr) → IsNew name (map attr_of attrs) → k < length attrs → chars (owned_bytes (get_or attrs k d).name) ≡ chars name → ⊥

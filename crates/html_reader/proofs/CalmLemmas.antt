@@ -1,12 +1,10 @@
 -- No text row comes next to a text row.
-use Rattle.std.proofs.Common.{◌≡◌, ℕ, zero, suc, ◌+◌, ◌≤◌, ◌<◌, List, [], ◌∷◌, ◌++◌, map, length, Bool, true, false, ◌&&◌, cond, sym, refl, ◌∙◌, ap, subst, arith, append_assoc, append-nil, length-append, eqb, ne_eqb, eqb-true}
+use Rattle.std.proofs.Common.{◌≡◌, ℕ, zero, suc, ◌≤◌, ◌<◌, List, [], ◌∷◌, ◌++◌, map, length, Bool, true, false, ◌&&◌, cond, refl, ◌∙◌, ap, arith, length-append, eqb, ne_eqb}
 use Rattle.std.specs.Prelude.{not}
-use Rattle.doc_model.specs.declared.Kind.{Kind}
-use Rattle.doc_model.specs.declared.Kind.TheVariants.{Root, Element, Attribute, Text, Comment}
-use Rattle.html_reader.specs.Tokens.{Attr, Tag, Leaf, text, comment, doctype}
+use Rattle.html_reader.specs.Tokens.{Attr, Tag, text, comment, doctype}
 use Rattle.html_reader.specs.Forest.{Forest, nothing, then_leaf, then_element}
 use Rattle.doc_model.specs.Document.{Row, is_text_kind, is_attribute_kind}
-use Rattle.html_reader.specs.Rows.{Sofar, sofar, fresh, flushed, entered, with_leaf, grown, row_of_element, row_of_attribute, row_of_text, row_of_comment, text_rows, tag_rows}
+use Rattle.html_reader.specs.Rows.{Sofar, sofar, fresh, flushed, entered, with_leaf, grown, row_of_attribute, row_of_comment, text_rows, tag_rows}
 use Rattle.html_reader.specs.Places.{Place, outside, within, place_grown, Grown, below}
 use Rattle.doc_model.specs.Growing.{innermost}
 use Rattle.html_reader.specs.Parents.{Small, Within}

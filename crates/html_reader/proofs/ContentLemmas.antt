@@ -1,5 +1,5 @@
 -- Names and texts that are taken as they are written.
-use Rattle.std.proofs.Common.{◌≡◌, ◌≤◌, ◌<◌, arith, inl, inr, ℕ, zero, suc, List, [], ◌∷◌, ◌++◌, Bool, true, false, ◌&&◌, ◌||◌, cond, sym, refl, ◌∙◌, ap, map, eqb, Option, Some, None}
+use Rattle.std.proofs.Common.{◌≡◌, ◌≤◌, arith, inl, inr, ℕ, List, [], ◌∷◌, ◌++◌, Bool, true, false, ◌&&◌, ◌||◌, refl, ◌∙◌, ap, map, eqb, None}
 use Rattle.std.specs.Prelude.{not}
 use Rattle.std.specs.List.{list_all, list_any}
 use Rattle.std.specs.Char.{is_ascii_uppercase, to_ascii_lowercase}
@@ -13,7 +13,7 @@ lower_one : (c : ℕ) → is_ascii_uppercase c ≡ false → to_ascii_lowercase 
 lower_one c h =
     elim (cases_lt c 65) [
       | inl low ↦ (lowercase_is c).1 low
-      | inr past ↦ elim (cases_lt 90 c) [ | inl high ↦ (lowercase_is c).2 high | inr within ↦ absurd (true_false (upper c past within) h) ]
+      | inr past ↦ elim (cases_lt 90 c) [ inl high ↦ (lowercase_is c).2 high | inr within ↦ absurd (true_false (upper c past within) h) ]
     ]
   where
     upper : (c : ℕ) → 65 ≤ c → c ≤ 90 → is_ascii_uppercase c ≡ true

@@ -1,16 +1,16 @@
 -- Places where no token is refused.
-use Rattle.std.proofs.Common.{◌≡◌, ℕ, ◌+◌, ◌≤◌, ◌<◌, List, [], ◌∷◌, ◌++◌, length, Bool, true, false, ◌&&◌, cond, sym, refl, ◌∙◌, ap, subst, arith, Option, Some, None, ltb, ltb-false, lt-ltb, eqb, eqb-true, false-eqb}
-use Rattle.std.specs.Prelude.{max, not}
+use Rattle.std.proofs.Common.{◌≡◌, ℕ, ◌+◌, ◌<◌, List, [], ◌∷◌, length, Bool, true, false, ◌&&◌, cond, sym, refl, ◌∙◌, ap, subst, arith, Some, None, ltb}
+use Rattle.std.specs.Prelude.{max}
 use Rattle.text_base.specs.declared.reasons.PageReason.{PageReason}
-use Rattle.text_base.specs.declared.reasons.PageReason.TheVariants.{StrayEnd, Unclosed, TextOutside, SecondRoot, NoRoot, Deep}
+use Rattle.text_base.specs.declared.reasons.PageReason.TheVariants.{StrayEnd, TextOutside, SecondRoot, Deep}
 use Rattle.std.specs.Str.{bytes_eq}
 use Rattle.std.proofs.lemmas.Slice.Eq.{bytes_eq-Decides}
 use Rattle.html_reader.specs.Tokens.{Tag, Leaf, Tok, starts, ends, holds, Mark, token, shut}
 use Rattle.html_reader.specs.Forest.{Forest, nothing, then_leaf, then_element, depth, width, is_white, is_white_leaf}
 use Rattle.html_reader.specs.Places.{Place, outside, within, open_tags, is_rooted, CanStart, Fits}
-use Rattle.html_reader.specs.Reading.{RefusesNext, Strays}
+use Rattle.html_reader.specs.Reading.{RefusesNext}
 use Rattle.html_reader.proofs.PlaceLemmas.{append, add, lone, put, puts}
-use Rattle.html_reader.proofs.WordLemmas.{Went, went}
+use Rattle.html_reader.proofs.WordLemmas.{went}
 
 pub depth-append : (f g : Forest) → depth (append f g) ≡ max (depth f) (depth g)
 depth-append nothing g = omega arith

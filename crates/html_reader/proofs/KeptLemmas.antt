@@ -1,7 +1,7 @@
 -- The attributes that are kept have names, and different ones.
-use Rattle.std.proofs.Common.{◌≡◌, ℕ, List, [], ◌∷◌, Bool, true, false, cond, sym, refl, ◌∙◌, ap, subst}
+use Rattle.std.proofs.Common.{◌≡◌, ℕ, List, [], ◌∷◌, Bool, true, false, cond, sym, refl, subst}
 use Rattle.std.specs.Prelude.{◌≢◌}
-use Rattle.std.specs.Str.{chars, IsUtf8, bytes_eq, str_to_ascii_lowercase}
+use Rattle.std.specs.Str.{IsUtf8, bytes_eq, str_to_ascii_lowercase}
 use Rattle.std.proofs.lemmas.Slice.Eq.{bytes_eq-Decides}
 use Rattle.text_base.proofs.Text.{same_bytes}
 use Rattle.html_reader.specs.Tokens.{Attr}

@@ -1,14 +1,14 @@
 -- Tokens build one document, or are refused at one place.
-use Rattle.std.proofs.Common.{◌≡◌, ℕ, ◌+◌, List, [], ◌∷◌, ◌++◌, length, Bool, true, false, sym, refl, ◌∙◌, ap, subst, arith, Option, Some, None, append_assoc, append-nil}
+use Rattle.std.proofs.Common.{◌≡◌, List, [], ◌∷◌, ◌++◌, length, Bool, false, sym, refl, ◌∙◌, ap, subst, arith, Option, Some, None, append-nil}
 use Rattle.text_base.specs.declared.reasons.PageReason.{PageReason}
 use Rattle.text_base.specs.declared.reasons.PageReason.TheVariants.{StrayEnd, Unclosed, TextOutside, SecondRoot, NoRoot, Deep}
-use Rattle.html_reader.specs.Tokens.{Tag, Leaf, Tok, starts, ends, holds, Mark, token, shut}
-use Rattle.html_reader.specs.Places.{Place, place_marks, place_grown, open_tags, is_rooted, Fits}
+use Rattle.html_reader.specs.Tokens.{Tag, Tok, starts, ends, holds, Mark, token, shut}
+use Rattle.html_reader.specs.Places.{Place, place_marks, place_grown, open_tags, is_rooted}
 use Rattle.html_reader.specs.Words.{tokens_of, begins_shut}
 use Rattle.doc_model.specs.Document.{Row}
 use Rattle.html_reader.specs.Reading.{Leads, Refuses, RefusesNext, Builds}
-use Rattle.html_reader.proofs.PlaceLemmas.{puts, put, start, puts_place, one_place}
-use Rattle.html_reader.proofs.WordLemmas.{first, Rest, word_front, went}
+use Rattle.html_reader.proofs.PlaceLemmas.{puts, start, puts_place, one_place}
+use Rattle.html_reader.proofs.WordLemmas.{word_front, went}
 use Rattle.html_reader.proofs.FitLemmas.{fits_front, not_refused}
 
 pub tokens_of-append : (v w : List Mark) → tokens_of (v ++ w) ≡ tokens_of v ++ tokens_of w

@@ -1,5 +1,5 @@
 -- A text that is not empty has characters.
-use Rattle.std.proofs.Common.{◌≡◌, ℕ, List, [], sym, ◌∙◌, ap, refl, encode_utf8_all}
+use Rattle.std.proofs.Common.{ℕ, List, [], sym, ◌∙◌, ap, encode_utf8_all}
 use Rattle.std.specs.Prelude.{◌≢◌}
 use Rattle.std.specs.Str.{chars, IsUtf8}
 use Rattle.text_base.proofs.Text.{encode-chars}

@@ -1,24 +1,23 @@
 -- Tokens read one by one.
 use Rattle.std.proofs.Common.{◌≡◌, ℕ, zero, suc, ◌+◌, ◌≤◌, List, [], ◌∷◌, ◌++◌, length, Bool, true, false, cond, sym, refl, ◌∙◌, ap, subst, arith, Option, Some, None, Ok, Err, length-append, inl, inr}
-use Rattle.std.specs.Prelude.{Result, ◌≢◌}
+use Rattle.std.specs.Prelude.{Result}
 use Rattle.text_base.specs.declared.reasons.PageReason.{PageReason}
 use Rattle.text_base.specs.declared.reasons.PageReason.TheVariants.{Unclosed, NoRoot}
 use Rattle.doc_model.specs.Document.{Document}
 use Rattle.doc_model.specs.Growing.{innermost}
-use Rattle.html_reader.specs.Tokens.{Tag, Leaf, Tok, Mark}
+use Rattle.html_reader.specs.Tokens.{Tag, Tok, Mark}
 use Rattle.html_reader.specs.Forest.{nothing}
-use Rattle.html_reader.specs.Places.{Place, outside, place_marks, open_tags, is_rooted, place_grown, Grown}
-use Rattle.html_reader.specs.Rows.{flushed, text_rows}
+use Rattle.html_reader.specs.Places.{outside, place_marks, Grown}
+use Rattle.html_reader.specs.Rows.{text_rows}
 use Rattle.html_reader.specs.Words.{is_shut}
 use Rattle.html_reader.specs.Machine.{State, state, step, shuts, after_shuts, closing, is_empty}
 use Rattle.html_reader.specs.Reading.{Builds, Refuses}
-use Rattle.html_reader.specs.Reached.{Reached, IsReached, IsSome, state_at}
+use Rattle.html_reader.specs.Reached.{IsReached, IsSome, state_at}
 use Rattle.html_reader.specs.States.{IsSound, tok_of, Steps}
 use Rattle.html_reader.specs.Taking.{LeadsTo, IsLed, size, Takes}
 use Rattle.html_reader.specs.declared.token.Token.{Token}
 use Rattle.text_base.specs.declared.reasons.PageFault.{PageFault}
 use Rattle.html_reader.proofs.RoomLemmas.{step_room}
-use Rattle.html_reader.proofs.PlaceLemmas.{put}
 use Rattle.html_reader.proofs.StepLemmas.{reach_shuts, reach_token, reach_refused, reach_leads}
 use Rattle.html_reader.proofs.SoundLemmas.{reached_sound}
 

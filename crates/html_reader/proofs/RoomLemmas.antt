@@ -1,11 +1,10 @@
 -- How far the rows and the open tags grow.
-use Rattle.std.proofs.Common.{◌≡◌, ℕ, zero, suc, ◌+◌, ◌≤◌, List, [], ◌∷◌, ◌++◌, map, length, Bool, true, false, cond, Ok, Err, sym, ◌∙◌, ap, subst, arith, length-append, eqb, ◌&&◌}
-use Rattle.std.specs.Prelude.{Result, not}
+use Rattle.std.proofs.Common.{◌≡◌, ℕ, zero, suc, ◌+◌, ◌≤◌, List, [], ◌∷◌, length, Bool, true, false, cond, Ok, Err, subst, arith, length-append, eqb, ◌&&◌}
+use Rattle.std.specs.Prelude.{not}
 use Rattle.std.proofs.lemmas.List.{length-map}
-use Rattle.text_base.specs.declared.reasons.PageReason.{PageReason}
 use Rattle.text_base.specs.declared.reasons.PageReason.TheVariants.{StrayEnd, SecondRoot, Deep, TextOutside}
 use Rattle.html_reader.specs.Tokens.{Tag, Leaf, text, comment, doctype, Tok, starts, ends, holds}
-use Rattle.html_reader.specs.Rows.{Sofar, flushed, text_rows, row_of_comment, row_of_attribute, tag_rows}
+use Rattle.html_reader.specs.Rows.{flushed, text_rows, row_of_comment, row_of_attribute, tag_rows}
 use Rattle.doc_model.specs.Growing.{innermost}
 use Rattle.html_reader.specs.Machine.{State, step, opened, held, closed, is_named, is_empty, without_first}
 use Rattle.html_reader.specs.Forest.{is_white_leaf}

@@ -1,10 +1,9 @@
 -- The rows from place to place.
-use Rattle.std.proofs.Common.{◌≡◌, ℕ, ◌+◌, List, [], ◌∷◌, ◌++◌, Bool, true, false, cond, sym, refl, ◌∙◌, ap, subst, append_assoc, append-nil, Option, Some, None}
-use Rattle.html_reader.specs.Tokens.{Tag, Leaf, Tok, starts, ends, holds, Mark, token, shut}
-use Rattle.html_reader.specs.Forest.{Forest, nothing, then_leaf, then_element, marks, close_of}
-use Rattle.html_reader.specs.Rows.{Sofar, sofar, flushed, entered, with_leaf, grown}
-use Rattle.html_reader.specs.Places.{Place, outside, within, place_marks, open_tags, place_grown, Grown, below, inside_tag, with_piece}
-use Rattle.doc_model.specs.Growing.{innermost}
+use Rattle.std.proofs.Common.{◌≡◌, ℕ, [], Bool, refl, ap}
+use Rattle.html_reader.specs.Tokens.{Tag, Leaf}
+use Rattle.html_reader.specs.Forest.{Forest, nothing, then_leaf, then_element}
+use Rattle.html_reader.specs.Rows.{Sofar, with_leaf, grown}
+use Rattle.html_reader.specs.Places.{Place, outside, within, place_grown, below, with_piece}
 use Rattle.html_reader.specs.Machine.{holding, closing}
 use Rattle.html_reader.proofs.PlaceLemmas.{append, add, lone}
 

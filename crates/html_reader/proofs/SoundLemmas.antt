@@ -1,18 +1,17 @@
 -- A place's state is one that the reader keeps.
-use Rattle.std.proofs.Common.{◌≡◌, ℕ, ◌+◌, ◌<◌, ◌≤◌, List, [], ◌∷◌, length, Bool, true, false, sym, refl, ◌∙◌, ap, subst, arith, length-append, ◌++◌, zero, suc}
+use Rattle.std.proofs.Common.{◌≡◌, ℕ, ◌+◌, ◌<◌, ◌≤◌, List, [], ◌∷◌, length, Bool, true, false, sym, refl, ◌∙◌, ap, subst, arith, length-append, zero, suc}
 use Rattle.html_reader.specs.Tokens.{Tok}
-use Rattle.html_reader.specs.Rows.{Sofar, flushed, text_rows}
-use Rattle.html_reader.specs.Forest.{Forest}
+use Rattle.html_reader.specs.Rows.{text_rows}
 use Rattle.html_reader.specs.Places.{Place, outside, within, open_tags, place_grown, Grown}
 use Rattle.doc_model.specs.Growing.{innermost}
 use Rattle.html_reader.specs.Machine.{State, shuts}
 use Rattle.html_reader.specs.States.{IsSound}
 use Rattle.html_reader.proofs.CalmLemmas.{place_calm, length-flushed}
-use Rattle.html_reader.specs.Reached.{state_at, Reached, IsReached}
+use Rattle.html_reader.specs.Reached.{state_at, IsReached}
 use Rattle.html_reader.specs.Words.{is_shut}
 use Rattle.html_reader.specs.Machine.{closed, after_shuts, state, without_first}
 use Rattle.html_reader.specs.Tokens.{Tag}
-use Rattle.std.proofs.Common.{Option, Some, None, cond}
+use Rattle.std.proofs.Common.{Option}
 use Rattle.html_reader.proofs.StepLemmas.{reach_shut}
 
 level_at : (p : Place) → length (place_grown p).open_rows ≡ length (open_tags p)

@@ -1,18 +1,17 @@
 -- The machine goes from place to place.
-use Rattle.std.proofs.Common.{◌≡◌, ℕ, ◌+◌, ◌≤◌, ◌<◌, List, [], ◌∷◌, ◌++◌, length, Bool, true, false, ◌&&◌, cond, sym, refl, ◌∙◌, ap, subst, arith, Option, Some, None, Ok, Err, append_assoc, append-nil, eqb, eqb-true, false-eqb, inl, inr, ◌⊎◌, ltb, lt-ltb, ltb-false}
+use Rattle.std.proofs.Common.{◌≡◌, ℕ, ◌≤◌, ◌<◌, List, [], ◌∷◌, ◌++◌, length, Bool, true, false, ◌&&◌, cond, sym, refl, ◌∙◌, ap, subst, arith, Option, Some, None, Ok, Err, append-nil, eqb, eqb-true, inl, inr, ◌⊎◌, ltb, lt-ltb}
 use Rattle.std.specs.Prelude.{Result, not}
-use Rattle.std.specs.Str.{bytes_eq}
 use Rattle.std.proofs.lemmas.Slice.Eq.{bytes_eq-Decides}
 use Rattle.text_base.specs.declared.reasons.PageReason.{PageReason}
-use Rattle.text_base.specs.declared.reasons.PageReason.TheVariants.{StrayEnd, Unclosed, TextOutside, SecondRoot, NoRoot, Deep}
+use Rattle.text_base.specs.declared.reasons.PageReason.TheVariants.{StrayEnd, TextOutside, SecondRoot, Deep}
 use Rattle.html_reader.specs.Tokens.{Tag, Leaf, Tok, starts, ends, holds, Mark, token, shut}
-use Rattle.html_reader.specs.Forest.{Forest, nothing, then_leaf, then_element, depth, width, is_white, is_white_leaf}
-use Rattle.html_reader.specs.Places.{Place, outside, within, place_marks, open_tags, is_rooted, CanStart, Fits, Grown, place_grown}
+use Rattle.html_reader.specs.Forest.{Forest, nothing, then_leaf, width, is_white_leaf}
+use Rattle.html_reader.specs.Places.{Place, outside, within, place_marks, open_tags, is_rooted, CanStart, Fits, Grown}
 use Rattle.html_reader.specs.Words.{tokens_of, next_token, begins_shut, is_shut, IsFull}
-use Rattle.html_reader.specs.Machine.{State, state, step, opened, held, closed, holding, closing, without_first, is_named, is_empty, after_shuts}
-use Rattle.html_reader.specs.Reading.{Leads, Refuses, RefusesNext, Strays, Builds}
+use Rattle.html_reader.specs.Machine.{State, state, step, opened, held, closed, closing, is_named, is_empty, after_shuts}
+use Rattle.html_reader.specs.Reading.{Leads, Refuses, RefusesNext, Strays}
 use Rattle.html_reader.specs.Reached.{state_at, IsSome, IsPart, Reached}
-use Rattle.html_reader.proofs.PlaceLemmas.{append, add, add-marks, lone, put, puts, put_marks, one_place}
+use Rattle.html_reader.proofs.PlaceLemmas.{append, add, lone, put, put_marks, one_place}
 use Rattle.html_reader.proofs.RowLemmas.{leaf_grown, close_grown}
 use Rattle.html_reader.proofs.FitLemmas.{depth-append, width-append, white-append, both_true}
 use Rattle.html_reader.proofs.PageLemmas.{tokens_of-append}

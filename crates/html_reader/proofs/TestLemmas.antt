@@ -1,6 +1,6 @@
 -- The tests on the stack.
-use Rattle.std.proofs.Common.{◌≡◌, ℕ, ◌+◌, ◌<◌, ◌≤◌, ◌-◌, List, [], ◌∷◌, ◌++◌, length, Bool, true, false, ◌&&◌, sym, refl, ◌∙◌, ap, subst, arith, eqb, ne_eqb, rules}
-use Rattle.std.specs.Prelude.{slice_get, Option, Some, None, ◌||◌}
+use Rattle.std.proofs.Common.{◌≡◌, ℕ, ◌<◌, ◌-◌, List, [], ◌∷◌, length, Bool, true, false, ◌&&◌, sym, refl, ◌∙◌, ap, arith, eqb, ne_eqb}
+use Rattle.std.specs.Prelude.{slice_get, Option, Some, ◌||◌}
 use Rattle.std.specs.List.{list_any}
 use Rattle.html_reader.specs.Tables.{is_foreign, is_void}
 use Rattle.html_reader.specs.Words.{is_shut, ends_at}
@@ -10,7 +10,7 @@ use Rattle.html_reader.specs.Tokens.{Tag, Tok}
 use Rattle.html_reader.specs.Pieces.{owned_bytes}
 use Rattle.html_reader.specs.Machine.{is_empty, is_named}
 use Rattle.html_reader.specs.States.{tag_of, tags_onto, is_foreign_tag, is_single_last}
-use Rattle.html_reader.proofs.AttrLemmas.{length-tags, tags_push}
+use Rattle.html_reader.proofs.AttrLemmas.{length-tags}
 
 empty_onto : (t : Tag) (tags : List Tag) (items : List StartTag) → is_empty (tags_onto (t ∷ tags) items) ≡ false
 empty_onto t tags [] = refl

@@ -1,9 +1,8 @@
 -- Where the rows do not end in a text, the last child is no text.
-use Rattle.std.proofs.Common.{◌≡◌, ℕ, zero, suc, ◌+◌, ◌<◌, ◌≤◌, List, [], ◌∷◌, length, Bool, true, false, ◌&&◌, cond, sym, refl, ◌∙◌, ap, subst, arith, eqb, ltb, lt-ltb, IsTrue}
+use Rattle.std.proofs.Common.{◌≡◌, ℕ, zero, suc, ◌<◌, List, [], ◌∷◌, length, Bool, true, false, ◌&&◌, cond, sym, refl, ◌∙◌, ap, arith, lt-ltb}
 use Rattle.std.specs.Prelude.{not}
-use Rattle.doc_model.specs.declared.Kind.{Kind}
-use Rattle.doc_model.specs.declared.Kind.TheVariants.{Root, Element, Attribute, Text, Comment}
-use Rattle.doc_model.specs.Document.{Row, Document, row, is_parent, is_attribute, is_text_kind, is_attribute_kind, IsLastChildBefore}
+use Rattle.doc_model.specs.declared.Kind.TheVariants.{Text}
+use Rattle.doc_model.specs.Document.{Row, Document, row, is_text_kind, IsLastChildBefore}
 use Rattle.html_reader.specs.Children.{is_child, ends_in_text}
 
 none : (p : ℕ) (b : Bool) (rs : List Row) → ((z : ℕ) → z < length rs → is_child p (row rs z) ≡ false) → ends_in_text p b rs ≡ b

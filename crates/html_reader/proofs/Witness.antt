@@ -1,12 +1,12 @@
 -- What the definitions say of small pages.
-use Rattle.std.proofs.Common.{◌≡◌, ℕ, List, [], ◌∷◌, Bool, true, false, refl, Some, None}
+use Rattle.std.proofs.Common.{◌≡◌, ℕ, List, [], ◌∷◌, true, false, refl, Some}
 use Rattle.std.specs.Prelude.{codes}
-use Rattle.html_reader.specs.Tables.{is_void, is_foreign, may_omit_end, start_ends, void_names, omitting_names, endings, head_names, foreign_names}
-use Rattle.html_reader.specs.Tokens.{Tag, Attr, Leaf, text, comment, doctype, Tok, starts, ends, holds, Mark, token, shut}
-use Rattle.html_reader.specs.Forest.{Forest, nothing, then_leaf, then_element}
-use Rattle.html_reader.specs.Places.{Place, outside, within, place_grown, place_marks}
+use Rattle.html_reader.specs.Tables.{start_ends, void_names, endings, head_names}
+use Rattle.html_reader.specs.Tokens.{Tag, Attr, text, comment, doctype, holds}
+use Rattle.html_reader.specs.Forest.{nothing, then_leaf, then_element}
+use Rattle.html_reader.specs.Places.{Place, outside, place_grown}
 use Rattle.html_reader.specs.Rows.{row_of_element, row_of_attribute, row_of_text, row_of_comment}
-use Rattle.doc_model.specs.Document.{no_row, Row}
+use Rattle.doc_model.specs.Document.{no_row}
 use Rattle.html_reader.specs.Words.{is_shut}
 
 abbrev plain : List ℕ → Tag

@@ -1,5 +1,5 @@
 -- What the tree takes of a token as it is written: names in ASCII lower case, the attributes that are kept, contents.
-use Rattle.std.specs.Prelude.{ℕ, ◌==◌, Bool, true, false, List, [], ◌∷◌, codes, if◌then◌else◌}
+use Rattle.std.specs.Prelude.{ℕ, ◌==◌, Bool, List, [], ◌∷◌, codes, if◌then◌else◌}
 use Rattle.std.specs.Str.{bytes_eq, str_to_ascii_lowercase}
 use Rattle.char_refs.specs.References.{decoded}
 use Rattle.html_reader.specs.Tokens.{Attr}

@@ -1,9 +1,9 @@
 -- What a mark does to the open tags and the rows.
-use Rattle.std.specs.Prelude.{◌≡◌, ℕ, ◌+◌, ◌==◌, ◌&&◌, nat_le, List, [], ◌∷◌, ◌++◌, length, Bool, true, false, not, Option, Some, None, Result, Ok, Err, if◌then◌else◌}
+use Rattle.std.specs.Prelude.{ℕ, ◌==◌, ◌&&◌, List, [], ◌∷◌, length, Bool, true, false, not, Option, Result, Ok, Err, if◌then◌else◌}
 use Rattle.std.specs.Str.{bytes_eq}
 use Rattle.text_base.specs.declared.reasons.PageReason.{PageReason}
-use Rattle.text_base.specs.declared.reasons.PageReason.TheVariants.{StrayEnd, Unclosed, TextOutside, SecondRoot, NoRoot, Deep}
-use Rattle.html_reader.specs.Tokens.{Tag, Leaf, Tok, starts, ends, holds, Mark, token, shut}
+use Rattle.text_base.specs.declared.reasons.PageReason.TheVariants.{StrayEnd, TextOutside, SecondRoot, Deep}
+use Rattle.html_reader.specs.Tokens.{Tag, Leaf, Tok, starts, ends, holds}
 use Rattle.html_reader.specs.Forest.{is_white_leaf}
 use Rattle.html_reader.specs.Rows.{sofar, flushed, with_leaf}
 use Rattle.html_reader.specs.Places.{Grown, below, inside_tag}

@@ -1,8 +1,7 @@
 -- What stands before a place of a page, cut at the start tags that are open there.
-use Rattle.std.specs.Prelude.{◌≡◌, ℕ, ◌+◌, ◌≤◌, ◌<◌, List, [], ◌∷◌, ◌++◌, length, Bool, true, false, nat_lt}
+use Rattle.std.specs.Prelude.{◌≡◌, ℕ, ◌+◌, ◌≤◌, List, [], ◌∷◌, ◌++◌, length, Bool, true, nat_lt}
 use Rattle.html_reader.specs.Tokens.{Tag, Mark, token, starts}
 use Rattle.html_reader.specs.Forest.{Forest, marks, depth, width, is_white}
-use Rattle.doc_model.specs.Document.{Row}
 use Rattle.doc_model.specs.Growing.{innermost}
 use Rattle.html_reader.specs.Rows.{Sofar, fresh, grown, flushed, entered}
 

@@ -1,11 +1,11 @@
 -- The document that tokens build, or their fault.
-use Rattle.std.specs.Prelude.{◌≡◌, ◌≢◌, ℕ, ◌+◌, ◌<◌, ◌≤◌, List, [], ◌∷◌, ◌++◌, length, take, Bool, true, false, Option, Some, None, ◌⊎◌, slice_get}
+use Rattle.std.specs.Prelude.{◌≡◌, ◌≢◌, ℕ, List, [], ◌∷◌, length, Bool, true, false, Option, Some, None}
 use Rattle.text_base.specs.declared.reasons.PageReason.{PageReason}
-use Rattle.text_base.specs.declared.reasons.PageReason.TheVariants.{Memory, NoRoot, Unclosed, SecondRoot, Deep, StrayEnd, TextOutside}
-use Rattle.html_reader.specs.Tokens.{Tag, Leaf, Tok, starts, ends, holds}
+use Rattle.text_base.specs.declared.reasons.PageReason.TheVariants.{NoRoot, Unclosed, SecondRoot, Deep, StrayEnd, TextOutside}
+use Rattle.html_reader.specs.Tokens.{Tag, Tok, starts, ends, holds}
 use Rattle.html_reader.specs.Forest.{is_white_leaf}
 use Rattle.doc_model.specs.Document.{Row}
-use Rattle.html_reader.specs.Places.{Place, place_marks, open_tags, is_rooted, Grown, place_grown, Fits}
+use Rattle.html_reader.specs.Places.{Place, place_marks, open_tags, is_rooted, place_grown, Fits}
 use Rattle.html_reader.specs.Words.{tokens_of, IsFull}
 
 -- These tokens, none of them refused, lead to this place, where `next` comes.

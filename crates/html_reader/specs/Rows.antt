@@ -1,5 +1,5 @@
 -- The rows that a balanced piece makes.
-use Rattle.std.specs.Prelude.{ℕ, zero, suc, ◌+◌, List, [], ◌∷◌, ◌++◌, map, length}
+use Rattle.std.specs.Prelude.{ℕ, zero, suc, List, [], ◌∷◌, ◌++◌, map, length}
 use Rattle.std.specs.Str.{chars}
 use Rattle.doc_model.specs.Document.{Row, no_row}
 use Rattle.doc_model.specs.Growing.{element_row, attr_row, text_row, comment_row}

@@ -1,5 +1,5 @@
 -- The reader's state, as the machine's.
-use Rattle.std.specs.Prelude.{◌≡◌, ◌≢◌, ℕ, ◌+◌, ◌<◌, List, [], ◌∷◌, ◌++◌, map, length, Bool, true, false, Result, Ok, Err, ◌⊎◌, Option, Some, None, ◌||◌, ◌&&◌}
+use Rattle.std.specs.Prelude.{◌≡◌, ◌≢◌, ℕ, ◌+◌, ◌<◌, List, [], ◌∷◌, map, length, Bool, false, Result, Ok, Err, ◌⊎◌, Option, Some, None, ◌||◌, ◌&&◌}
 use Rattle.std.specs.List.{list_any}
 use denote.Ref.{Bor}
 use Rattle.html_reader.specs.Tables.{is_foreign, is_void}
@@ -10,8 +10,8 @@ use Rattle.html_reader.specs.declared.token.Token.{Token}
 use Rattle.html_reader.specs.declared.token.Token.TheVariants as code
 use Rattle.html_reader.specs.declared.token.Attr as code_attr
 use Rattle.html_reader.specs.declared.token.StartTag.{StartTag}
-use Rattle.html_reader.specs.Tokens.{Attr, Tag, Leaf, text, comment, doctype, Tok, starts, ends, holds}
-use Rattle.html_reader.specs.Rows.{sofar, flushed}
+use Rattle.html_reader.specs.Tokens.{Attr, Tag, text, comment, doctype, Tok, starts, ends, holds}
+use Rattle.html_reader.specs.Rows.{sofar}
 use Rattle.html_reader.specs.Places.{Grown, below}
 use Rattle.doc_model.specs.Growing.{Growing, innermost}
 use Rattle.html_reader.specs.Children.{ends_in_text}

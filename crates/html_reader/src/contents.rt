@@ -81,7 +81,12 @@ fn drop_newline<'p>(alloc: Global, text: Owned<'p>) -> Result<Owned<'p>, NoMemor
 }
 
 /// The content of a text, of which a first newline does not count where `takes` tells it.
-pub fn content<'p>(alloc: Global, raw: &'p str, refs: bool, takes: bool) -> Result<Owned<'p>, NoMemory>
+pub fn content<'p>(
+    alloc: Global,
+    raw: &'p str,
+    refs: bool,
+    takes: bool,
+) -> Result<Owned<'p>, NoMemory>
     ensures { IfOk result (λ t. owned_bytes t ≡ (if takes then without_newline (meant raw.now refs) else meant raw.now refs)) }
 {
     let meant = meant(alloc, raw, refs)?;

@@ -5,7 +5,6 @@ mod contents;
 mod laws;
 mod owned;
 mod reader;
-
 mod tables;
 mod token;
 

@@ -1,15 +1,13 @@
-use Rattle.std.proofs.Common.{◌≡◌, length, sym, ◌∙◌, ap, arith, [], rules, refl}
+use Rattle.std.proofs.Common.{◌≡◌, length, ◌∙◌, ap, arith, [], rules, refl}
 use Rattle.html_reader.specs.Pieces.{owned_bytes}
 use Rattle.html_reader.specs.States.{grown_of}
-use Rattle.doc_model.specs.Growing.{with_text}
 use Rattle.html_reader.proofs.AttrLemmas.{settle_text, length-tags}
 use Rattle.html_reader.proofs.TextLemmas.{no_text}
 use Rattle.html_reader.proofs.reader.Reader.flush.Goals as goal
 
 pub text-requires : goal.text-requires
 text-requires g c κs =
-    let some : (owned_bytes c.args.self.now.waits ≡ [] → ⊥) = search rules in
-    (
+    let some : (owned_bytes c.args.self.now.waits ≡ [] → ⊥) = search rules in (
       (refl, tt),
       (
         c.piece.ensures.some some,

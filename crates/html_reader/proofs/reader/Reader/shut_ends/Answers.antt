@@ -1,4 +1,4 @@
-use Rattle.std.proofs.Common.{◌≡◌, ◌<◌, length, refl, arith, ◌∙◌, ◌^◌, sym, subst, [], true, rules}
+use Rattle.std.proofs.Common.{◌≡◌, ◌<◌, refl, arith, ◌∙◌, ◌^◌, sym, subst, [], true}
 use Rattle.std.specs.Vec.{vec_len}
 use Rattle.html_reader.specs.Pieces.{owned_bytes}
 use Rattle.html_reader.specs.States.{the_state, tags_onto, next_of}
@@ -12,8 +12,7 @@ pub end-requires : goal.end-requires
 end-requires g c κs =
     let next = next_of c.args.next in
     let must : (is_shut (tags_onto [] c.loop-self.self.tags.items) next ≡ true) = sym c.is_shut.ensures ∙ c.loop-self-test.true in
-    let some : (0 < vec_len c.loop-self.self.tags) = omega (arith, shut_some next (tags_onto [] c.loop-self.self.tags.items) must, length-tags [] c.loop-self.self.tags.items) in
-    (
+    let some : (0 < vec_len c.loop-self.self.tags) = omega (arith, shut_some next (tags_onto [] c.loop-self.self.tags.items) must, length-tags [] c.loop-self.self.tags.items) in (
       (refl, tt),
       (
         reached_sound next _ c.loop-self.invariant.reached,

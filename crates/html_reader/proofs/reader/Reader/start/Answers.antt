@@ -22,8 +22,7 @@ push_attrs-requires g c κs =
     let flushed = g.G.Grow.growing c.flush.new.self.grow in
     let few : length flushed.rows ≤ length was.rows + 1 = settled_room was flushed (owned_bytes c.args.self.now.waits) (owned_bytes c.flush.new.self.waits) c.in_ok-flush.ensures.grown in
     let begun = c.in_ok-element.ensures.ok in
-    let name = owned_bytes c.args.tag.name in
-    (
+    let name = owned_bytes c.args.tag.name in (
       (refl, tt),
       (
         ends_in was flushed (g.G.Grow.growing c.element.new.self) (owned_bytes c.args.self.now.waits) (owned_bytes c.flush.new.self.waits) name _ c.in_ok-flush.ensures.grown c.requires.sound.there c.requires.sound.inside c.piece.ensures.text begun,
