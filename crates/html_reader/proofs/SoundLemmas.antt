@@ -1,0 +1,71 @@
+-- A place's state is one that the reader keeps.
+use Rattle.std.proofs.Common.{◌≡◌, ℕ, ◌+◌, ◌<◌, ◌≤◌, List, [], ◌∷◌, length, Bool, true, false, sym, refl, ◌∙◌, ap, subst, arith, length-append, zero, suc}
+use Rattle.html_reader.specs.Tokens.{Tok}
+use Rattle.html_reader.specs.Rows.{text_rows}
+use Rattle.html_reader.specs.Places.{Place, outside, within, open_tags, place_grown, Grown}
+use Rattle.doc_model.specs.Growing.{innermost}
+use Rattle.html_reader.specs.Machine.{State, shuts}
+use Rattle.html_reader.specs.States.{IsSound}
+use Rattle.html_reader.proofs.CalmLemmas.{place_calm, length-flushed}
+use Rattle.html_reader.specs.Reached.{state_at, IsReached}
+use Rattle.html_reader.specs.Words.{is_shut}
+use Rattle.html_reader.specs.Machine.{closed, after_shuts, state, without_first}
+use Rattle.html_reader.specs.Tokens.{Tag}
+use Rattle.std.proofs.Common.{Option}
+use Rattle.html_reader.proofs.StepLemmas.{reach_shut}
+
+level_at : (p : Place) → length (place_grown p).open_rows ≡ length (open_tags p)
+level_at (outside piece) = refl
+level_at (within before tag piece) = omega (arith, level_at before)
+
+below_at : (p : Place) → ((place_grown p).open_rows ≡ [] → ⊥) → 0 < innermost (place_grown p).open_rows
+below_at (outside piece) some = absurd (some refl)
+below_at (within before tag piece) some =
+    let g = place_grown before in
+    omega (arith, (place_calm before).there, length-flushed (innermost g.open_rows) g.sofar)
+
+pub place_sound : (p : Place) → IsSound (state_at p)
+place_sound p = let calm = place_calm p in record { there = calm.there; inside = calm.inside; level = level_at p; below_root = below_at p; calm = (place_calm p).calm }
+
+pub reached_sound : (next : Option Tok) (s : State) → IsReached next s → IsSound s
+reached_sound next s h = subst IsSound h.reached.state (place_sound h.reached.place)
+
+pub reached_shut : (next : Option Tok) (s : State) → IsReached next s → is_shut s.tags next ≡ true → IsReached next (closed s)
+reached_shut next s h must = record { tokens = h.tokens; reached = reach_shut h.tokens next s h.reached must }
+
+shuts_tags : (next : Option Tok) (tags : List Tag) (rooted : Bool) (g : Grown) → is_shut tags next ≡ true → after_shuts next tags rooted g ≡ shuts next (closed (state tags rooted g))
+shuts_tags next [] rooted g h = cc
+shuts_tags next (tag ∷ before) rooted g h = rw h refl
+
+pub shuts_more : (next : Option Tok) (s t first : State) → shuts next s ≡ shuts next first → is_shut s.tags next ≡ true → t ≡ closed s → shuts next t ≡ shuts next first
+shuts_more next s t first e h is = ap (shuts next) is ∙ sym (shuts_tags next s.tags s.rooted s.grown h) ∙ e
+
+none_tags : (next : Option Tok) (tags : List Tag) (rooted : Bool) (g : Grown) → is_shut tags next ≡ false → after_shuts next tags rooted g ≡ state tags rooted g
+none_tags next [] rooted g h = refl
+none_tags next (tag ∷ before) rooted g h = rw h refl
+
+pub shuts_none : (next : Option Tok) (s first : State) → shuts next s ≡ shuts next first → is_shut s.tags next ≡ false → s ≡ shuts next first
+shuts_none next s first e h = sym (none_tags next s.tags s.rooted s.grown h) ∙ e
+
+few : (p : ℕ) (waits : List ℕ) → length (text_rows p waits) ≤ 1
+few zero waits = omega arith
+few (suc p) [] = omega arith
+few (suc p) (c ∷ cs) = omega arith
+
+closed_tags : (next : Option Tok) (s : State) → is_shut s.tags next ≡ true → length (closed s).tags + 1 ≡ length s.tags
+closed_tags next s h = by_tags s.tags h
+  where
+    by_tags : (tags : List Tag) → is_shut tags next ≡ true → length (without_first tags) + 1 ≡ length tags
+    by_tags [] h = cc
+    by_tags (tag ∷ before) h = omega arith
+
+pub closed_less : (next : Option Tok) (s t : State) → t ≡ closed s → is_shut s.tags next ≡ true → length t.tags < length s.tags
+closed_less next s t is h = omega (arith, ap (λ (x : State). length x.tags) is, closed_tags next s h)
+
+pub closed_room : (next : Option Tok) (s t : State) (most : ℕ) → t ≡ closed s → is_shut s.tags next ≡ true → length s.grown.sofar.rows + length s.tags + 1 < most → length t.grown.sofar.rows + length t.tags + 1 < most
+closed_room next s t most is h room =
+    omega (arith, room, ap (λ (x : State). length x.tags) is, closed_tags next s h, ap (λ (x : State). length x.grown.sofar.rows) is, length-append s.grown.sofar.rows (text_rows (innermost s.grown.open_rows) s.grown.sofar.waits), few (innermost s.grown.open_rows) s.grown.sofar.waits)
+
+pub shut_some : (next : Option Tok) (tags : List Tag) → is_shut tags next ≡ true → 0 < length tags
+shut_some next [] h = cc
+shut_some next (tag ∷ before) h = omega arith

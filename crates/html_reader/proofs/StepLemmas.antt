@@ -1,0 +1,278 @@
+-- The machine goes from place to place.
+use Rattle.std.proofs.Common.{◌≡◌, ℕ, ◌≤◌, ◌<◌, List, [], ◌∷◌, ◌++◌, length, Bool, true, false, ◌&&◌, cond, sym, refl, ◌∙◌, ap, subst, arith, Option, Some, None, Ok, Err, append-nil, eqb, eqb-true, inl, inr, ◌⊎◌, ltb, lt-ltb}
+use Rattle.std.specs.Prelude.{Result, not}
+use Rattle.std.proofs.lemmas.Slice.Eq.{bytes_eq-Decides}
+use Rattle.text_base.specs.declared.reasons.PageReason.{PageReason}
+use Rattle.text_base.specs.declared.reasons.PageReason.TheVariants.{StrayEnd, TextOutside, SecondRoot, Deep}
+use Rattle.html_reader.specs.Tokens.{Tag, Leaf, Tok, starts, ends, holds, Mark, token, shut}
+use Rattle.html_reader.specs.Forest.{Forest, nothing, then_leaf, width, is_white_leaf}
+use Rattle.html_reader.specs.Places.{Place, outside, within, place_marks, open_tags, is_rooted, CanStart, Fits, Grown}
+use Rattle.html_reader.specs.Words.{tokens_of, next_token, begins_shut, is_shut, IsFull}
+use Rattle.html_reader.specs.Machine.{State, state, step, opened, held, closed, closing, is_named, is_empty, after_shuts}
+use Rattle.html_reader.specs.Reading.{Leads, Refuses, RefusesNext, Strays}
+use Rattle.html_reader.specs.Reached.{state_at, IsSome, IsPart, Reached}
+use Rattle.html_reader.proofs.PlaceLemmas.{append, add, lone, put, put_marks, one_place}
+use Rattle.html_reader.proofs.RowLemmas.{leaf_grown, close_grown}
+use Rattle.html_reader.proofs.FitLemmas.{depth-append, width-append, white-append, both_true}
+use Rattle.html_reader.proofs.PageLemmas.{tokens_of-append}
+
+pub add_open : (p : Place) (f : Forest) → open_tags (add p f) ≡ open_tags p
+add_open (outside piece) f = refl
+add_open (within before tag piece) f = refl
+
+leaf_rooted : (p : Place) (leaf : Leaf) → is_rooted (add p (then_leaf leaf nothing)) ≡ is_rooted p
+leaf_rooted (outside piece) leaf = ap (ltb 0) (omega (arith, width-append piece (then_leaf leaf nothing)))
+leaf_rooted (within before tag piece) leaf = refl
+
+close_rooted : (p : Place) (tag : Tag) (piece : Forest) (inserted : Bool) → is_rooted (add p (lone tag piece inserted)) ≡ true
+close_rooted (outside q) tag piece inserted = lt-ltb 0 (width (append q (lone tag piece inserted))) (omega (arith, width-append q (lone tag piece inserted)))
+close_rooted (within before t q) tag piece inserted = refl
+
+same_state : {a b : List Tag} {r s : Bool} {g h : Grown} → a ≡ b → r ≡ s → g ≡ h → state a r g ≡ state b s h
+same_state e f k = λ i. state (e i) (f i) (k i)
+
+pub leaf_state : (p : Place) (leaf : Leaf) → state_at (add p (then_leaf leaf nothing)) ≡ held (state_at p) leaf
+leaf_state p leaf = same_state (add_open p (then_leaf leaf nothing)) (leaf_rooted p leaf) (leaf_grown p leaf)
+
+pub close_state : (p : Place) (tag : Tag) (piece : Forest) (inserted : Bool) → state_at (add p (lone tag piece inserted)) ≡ closed (state_at (within p tag piece))
+close_state p tag piece inserted = same_state (add_open p (lone tag piece inserted)) (close_rooted p tag piece inserted) (close_grown p tag piece inserted)
+
+-- what fits
+fits_leaf : (p : Place) (leaf : Leaf) → Fits p → (is_empty (open_tags p) && not (is_white_leaf leaf)) ≡ false → Fits (add p (then_leaf leaf nothing))
+fits_leaf (outside piece) leaf h white =
+    (white-append piece (then_leaf leaf nothing) ∙ (λ i. h.0 i && (not_not (is_white_leaf leaf) white i && true)), omega (arith, h.1, width-append piece (then_leaf leaf nothing)), omega (arith, h.2, depth-append piece (then_leaf leaf nothing)))
+  where
+    not_not : (b : Bool) → not b ≡ false → b ≡ true
+    not_not true e = refl
+    not_not false e = cc
+fits_leaf (within before tag piece) leaf h white = (h.0, h.1, omega (arith, h.2, depth-append piece (then_leaf leaf nothing)))
+
+pub open_few : (p : Place) → Fits p → length (open_tags p) ≤ 512
+open_few (outside piece) h = omega arith
+open_few (within before tag piece) h = omega (arith, h.2)
+
+can_start : (p : Place) → (is_empty (open_tags p) && is_rooted p) ≡ false → CanStart p
+can_start (outside piece) h = let none : (0 < width piece → ⊥) = (λ l. true_false (lt-ltb 0 (width piece) l) h) in omega (arith, none)
+  where
+    true_false : {b : Bool} → b ≡ true → b ≡ false → ⊥
+    true_false h k = cc
+can_start (within before tag piece) h = tt
+
+fits_close : (p : Place) (tag : Tag) (piece : Forest) (inserted : Bool) → Fits (within p tag piece) → Fits (add p (lone tag piece inserted))
+fits_close (outside q) tag piece inserted h =
+    let f = h.0 in (
+      white-append q (lone tag piece inserted) ∙ (λ i. f.0 i && true),
+      omega (arith, h.1, width-append q (lone tag piece inserted)),
+      omega (arith, f.2, h.2, depth-append q (lone tag piece inserted)),
+    )
+fits_close (within before t q) tag piece inserted h = let f = h.0 in (f.0, f.1, omega (arith, f.2, h.2, depth-append q (lone tag piece inserted)))
+
+-- a mark more
+pub record Goes (p : Place) (m : Mark) (s : State) : Type 0 where
+  pub place : Place
+  pub is : put p m ≡ Some place
+  pub fits : Fits place
+  pub state : state_at place ≡ s
+
+pub guard_ok : {A : Type 0} (b : Bool) (e : PageReason) (x : Result A PageReason) (y : A) → cond b (Err e) x ≡ Ok y → (b ≡ false) × (x ≡ Ok y)
+guard_ok true e x y h = cc
+guard_ok false e x y h = (refl, h)
+
+guard_err : {A : Type 0} (b : Bool) (e d : PageReason) (x : Result A PageReason) → cond b (Err e) x ≡ Err d → ((b ≡ true) × (e ≡ d)) ⊎ (x ≡ Err d)
+guard_err true e d x h = inl (refl, same_err h)
+  where
+    same_err : {A : Type 0} → ◌≡◌ {A = Result A PageReason} (Err e) (Err d) → e ≡ d
+    same_err h = cc
+guard_err false e d x h = inr h
+
+pub same_ok : {A : Type 0} (x y : A) → ◌≡◌ {A = Result A PageReason} (Ok x) (Ok y) → x ≡ y
+same_ok x y e = cc
+
+eq_true : (a b : ℕ) → a ≡ b → eqb a b ≡ true
+eq_true a b e = grind arith
+
+goes_end : (p : Place) (name : List ℕ) (s : State) → Fits p → (named : Bool) → is_named (open_tags p) name ≡ named → cond named (Ok (closed (state_at p))) (Err StrayEnd) ≡ Ok s → Goes p (token (ends name)) s
+goes_end (outside piece) name s fits true is h = cc
+goes_end (within before tag piece) name s fits true is h =
+    record {
+      place = add before (lone tag piece false);
+      is = ap (λ b. cond b (Some (add before (lone tag piece false))) None) is;
+      fits = fits_close before tag piece false fits;
+      state = close_state before tag piece false ∙ same_ok _ _ h;
+    }
+goes_end p name s fits false is h = cc
+
+pub goes : (p : Place) (t : Tok) (s : State) → Fits p → step (state_at p) t ≡ Ok s → Goes p (token t) s
+goes p (starts tag) s fits h =
+    let free = guard_ok _ _ _ _ h in
+    let room = guard_ok _ _ _ _ free.1 in
+    let few = open_few p fits in
+    let less : (length (open_tags p) ≡ 512 → ⊥) = (λ e. true_false (eq_true _ _ e) room.0) in
+    record {
+      place = within p tag nothing;
+      is = refl;
+      fits = (fits, can_start p free.0, omega (arith, few, less));
+      state = same_ok _ _ room.1;
+    }
+  where
+    true_false : {b : Bool} → b ≡ true → b ≡ false → ⊥
+    true_false h k = cc
+goes p (ends name) s fits h = goes_end p name s fits _ refl h
+goes p (holds leaf) s fits h =
+    let free = guard_ok _ _ _ _ h in
+    record { place = add p (then_leaf leaf nothing); is = refl; fits = fits_leaf p leaf fits free.0; state = leaf_state p leaf ∙ same_ok _ _ free.1 }
+
+goes_shut_at : (p : Place) (next : Option Tok) → Fits p → is_shut (open_tags p) next ≡ true → Goes p shut (closed (state_at p))
+goes_shut_at (outside piece) next fits h = cc
+goes_shut_at (within before tag piece) next fits h =
+    record { place = add before (lone tag piece true); is = refl; fits = fits_close before tag piece true fits; state = close_state before tag piece true }
+
+-- a token that is refused
+no_tags : (tags : List Tag) → is_empty tags ≡ true → tags ≡ []
+no_tags [] h = refl
+no_tags (t ∷ ts) h = cc
+
+reason_is : (tags : List Tag) (rooted : Bool) (next : Option Tok) (e d : PageReason) → e ≡ d → RefusesNext tags rooted next e → RefusesNext tags rooted next d
+reason_is tags rooted next e d is h = subst (RefusesNext tags rooted next) is h
+
+strays : (tags : List Tag) (name : List ℕ) → is_named tags name ≡ false → Strays tags name
+strays [] name h = tt
+strays (tag ∷ before) name h = λ e. true_false ((bytes_eq-Decides tag.name name).1 e) h
+  where
+    true_false : {b : Bool} → b ≡ true → b ≡ false → ⊥
+    true_false h k = cc
+
+stray_err : (b : Bool) (s : State) (r : PageReason) → cond b (Ok s) (Err StrayEnd) ≡ Err r → (b ≡ false) × (StrayEnd ≡ r)
+stray_err true s r h = cc
+stray_err false s r h = (refl, cc)
+
+not_true : (b : Bool) → not b ≡ true → b ≡ false
+not_true true h = cc
+not_true false h = refl
+
+pub refused : (s : State) (t : Tok) (r : PageReason) → step s t ≡ Err r → RefusesNext s.tags s.rooted (Some t) r
+refused s (starts tag) r h =
+    elim (guard_err (is_empty s.tags && s.rooted) SecondRoot r (cond (eqb (length s.tags) 512) (Err Deep) (Ok (opened s tag))) h) [
+      | inl second ↦ let parts = both_true _ _ second.0 in reason_is s.tags s.rooted (Some (starts tag)) SecondRoot r second.1 (no_tags _ parts.0, parts.1)
+      | inr later ↦
+          elim (guard_err (eqb (length s.tags) 512) Deep r (Ok (opened s tag)) later) [
+            | inl deep ↦ reason_is s.tags s.rooted (Some (starts tag)) Deep r deep.1 (eqb-true _ _ deep.0)
+            | inr taken ↦ cc
+          ]
+    ]
+refused s (ends name) r h = let parts = stray_err _ _ _ h in reason_is s.tags s.rooted (Some (ends name)) StrayEnd r parts.1 (strays s.tags name parts.0)
+refused s (holds leaf) r h =
+    elim (guard_err (is_empty s.tags && not (is_white_leaf leaf)) TextOutside r (Ok (held s leaf)) h) [
+      | inl out ↦ let parts = both_true _ _ out.0 in reason_is s.tags s.rooted (Some (holds leaf)) TextOutside r out.1 (no_tags _ parts.0, not_true _ parts.1)
+      | inr taken ↦ cc
+    ]
+
+pub full_of : (p : Place) (after : Option Tok) → IsPart (place_marks p) after → is_shut (open_tags p) after ≡ false → IsFull (place_marks p) after
+full_of p after part still u [] e = ap (λ q. is_shut (open_tags q) after) (one_place u p (sym (append-nil (place_marks u)) ∙ e)) ∙ still
+full_of p after part still u (m ∷ v) e = part u (m ∷ v) e tt
+
+-- a word cut before its last mark, or at its end
+pub data Cut (u v w : List Mark) (m : Mark) : Type 0 where
+  at_end : v ≡ [] → Cut u v w m
+  earlier : (front : List Mark) → v ≡ front ++ m ∷ [] → u ++ front ≡ w → Cut u v w m
+
+cut_more : (a : Mark) (u v w : List Mark) (m : Mark) → Cut u v w m → Cut (a ∷ u) v (a ∷ w) m
+cut_more a u v w m (at_end e) = at_end e
+cut_more a u v w m (earlier front e f) = earlier front e (ap (λ x. a ∷ x) f)
+
+same_cons : {a b : Mark} {v w : List Mark} → a ∷ v ≡ b ∷ w → (a ≡ b) × (v ≡ w)
+same_cons e = (cc, cc)
+
+pub cut : (u v w : List Mark) (m : Mark) → u ++ v ≡ w ++ m ∷ [] → Cut u v w m
+cut [] v w m e = earlier w e refl
+cut (a ∷ u) v [] m e = at_end (nil_of u v (same_cons e).1)
+  where
+    nil_of : (u v : List Mark) → u ++ v ≡ [] → v ≡ []
+    nil_of [] v e = e
+    nil_of (b ∷ u) v e = cc
+cut (a ∷ u) v (b ∷ w) m e = let parts = same_cons e in subst (λ x. Cut (a ∷ u) v (x ∷ w) m) parts.0 (cut_more a u v w m (cut u v w m parts.1))
+
+next_before_token : (v : List Mark) (t : Tok) (after : Option Tok) → next_token (v ++ token t ∷ []) after ≡ next_token v (Some t)
+next_before_token [] t after = refl
+next_before_token (shut ∷ v) t after = next_before_token v t after
+next_before_token (token u ∷ v) t after = refl
+
+next_before_shut : (v : List Mark) (after : Option Tok) → next_token (v ++ shut ∷ []) after ≡ next_token v after
+next_before_shut [] after = refl
+next_before_shut (shut ∷ v) after = next_before_shut v after
+next_before_shut (token u ∷ v) after = refl
+
+begins_front : (a : Mark) (v : List Mark) (m : Mark) → begins_shut ((a ∷ v) ++ m ∷ []) ≡ begins_shut (a ∷ v)
+begins_front shut v m = refl
+begins_front (token t) v m = refl
+
+-- a token, where no end must stand
+pub part_token : (p : Place) (t : Tok) → IsPart (place_marks p) (Some t) → is_shut (open_tags p) (Some t) ≡ false → (after : Option Tok) → IsPart (place_marks p ++ token t ∷ []) after
+part_token p t part still after u v e some = by_cut (cut (place_marks u) v (place_marks p) (token t) e)
+  where
+    by_front : (front : List Mark) → place_marks u ++ front ≡ place_marks p → is_shut (open_tags u) (next_token (front ++ token t ∷ []) after) ≡ begins_shut (front ++ token t ∷ [])
+    by_front [] f = ap (λ q. is_shut (open_tags q) (Some t)) (one_place u p (sym (append-nil (place_marks u)) ∙ f)) ∙ still
+    by_front (a ∷ front) f = ap (is_shut (open_tags u)) (next_before_token (a ∷ front) t after) ∙ part u (a ∷ front) f tt ∙ sym (begins_front a front (token t))
+
+    by_cut : Cut (place_marks u) v (place_marks p) (token t) → is_shut (open_tags u) (next_token v after) ≡ begins_shut v
+    by_cut (at_end e) = absurd (subst IsSome e some)
+    by_cut (earlier front e f) = subst (λ x. is_shut (open_tags u) (next_token x after) ≡ begins_shut x) (sym e) (by_front front f)
+
+-- an inserted end, where one must stand
+pub part_shut : (p : Place) (after : Option Tok) → IsPart (place_marks p) after → is_shut (open_tags p) after ≡ true → IsPart (place_marks p ++ shut ∷ []) after
+part_shut p after part must u v e some = by_cut (cut (place_marks u) v (place_marks p) shut e)
+  where
+    by_front : (front : List Mark) → place_marks u ++ front ≡ place_marks p → is_shut (open_tags u) (next_token (front ++ shut ∷ []) after) ≡ begins_shut (front ++ shut ∷ [])
+    by_front [] f = ap (λ q. is_shut (open_tags q) after) (one_place u p (sym (append-nil (place_marks u)) ∙ f)) ∙ must
+    by_front (a ∷ front) f = ap (is_shut (open_tags u)) (next_before_shut (a ∷ front) after) ∙ part u (a ∷ front) f tt ∙ sym (begins_front a front shut)
+
+    by_cut : Cut (place_marks u) v (place_marks p) shut → is_shut (open_tags u) (next_token v after) ≡ begins_shut v
+    by_cut (at_end e) = absurd (subst IsSome e some)
+    by_cut (earlier front e f) = subst (λ x. is_shut (open_tags u) (next_token x after) ≡ begins_shut x) (sym e) (by_front front f)
+
+pub reach_leads : (tokens : List Tok) (next : Option Tok) (s : State) (h : Reached tokens next s) → is_shut s.tags next ≡ false → Leads tokens next h.place
+reach_leads tokens next s h still =
+    record { spelled = h.spelled; full = full_of h.place next h.part (ap (λ (x : State). is_shut x.tags next) h.state ∙ still); fits = h.fits }
+
+pub reach_token : (tokens : List Tok) (t : Tok) (s new : State) → Reached tokens (Some t) s → is_shut s.tags (Some t) ≡ false → step s t ≡ Ok new → (after : Option Tok) → Reached (tokens ++ t ∷ []) after new
+reach_token tokens t s new h still taken after =
+    let p = h.place in
+    let went = goes p t new h.fits (ap (λ x. step x t) h.state ∙ taken) in
+    let more = put_marks p went.place (token t) went.is in
+    record {
+      place = went.place;
+      spelled = ap tokens_of more ∙ tokens_of-append (place_marks p) (token t ∷ []) ∙ ap (λ x. x ++ t ∷ []) h.spelled;
+      part = subst (λ w. IsPart w after) (sym more) (part_token p t h.part (ap (λ (x : State). is_shut x.tags (Some t)) h.state ∙ still) after);
+      fits = went.fits;
+      state = went.state;
+    }
+
+pub reach_shut : (tokens : List Tok) (next : Option Tok) (s : State) → Reached tokens next s → is_shut s.tags next ≡ true → Reached tokens next (closed s)
+reach_shut tokens next s h must =
+    let p = h.place in
+    let must' = ap (λ (x : State). is_shut x.tags next) h.state ∙ must in
+    let went = goes_shut_at p next h.fits must' in
+    let more = put_marks p went.place shut went.is in
+    record {
+      place = went.place;
+      spelled = ap tokens_of more ∙ tokens_of-append (place_marks p) (shut ∷ []) ∙ append-nil (tokens_of (place_marks p)) ∙ h.spelled;
+      part = subst (λ w. IsPart w next) (sym more) (part_shut p next h.part must');
+      fits = went.fits;
+      state = went.state ∙ ap closed h.state;
+    }
+
+pub reach_shuts : (tokens : List Tok) (next : Option Tok) (tags : List Tag) (rooted : Bool) (g : Grown) → Reached tokens next (state tags rooted g)
+    → Reached tokens next (after_shuts next tags rooted g) × (is_shut (after_shuts next tags rooted g).tags next ≡ false)
+reach_shuts tokens next [] rooted g h = (h, refl)
+reach_shuts tokens next (tag ∷ before) rooted g h =
+    by_test (is_shut (tag ∷ before) next) refl (λ k. reach_shuts tokens next before rooted (closing g) k)
+  where
+    by_test : (b : Bool) → is_shut (tag ∷ before) next ≡ b
+        → (Reached tokens next (state before rooted (closing g)) → Reached tokens next (after_shuts next before rooted (closing g)) × (is_shut (after_shuts next before rooted (closing g)).tags next ≡ false))
+        → Reached tokens next (cond b (after_shuts next before rooted (closing g)) (state (tag ∷ before) rooted g)) × (is_shut (cond b (after_shuts next before rooted (closing g)) (state (tag ∷ before) rooted g)).tags next ≡ false)
+    by_test true is later = later (reach_shut tokens next (state (tag ∷ before) rooted g) h is)
+    by_test false is later = (h, is)
+
+pub reach_refused : (tokens : List Tok) (t : Tok) (s : State) (r : PageReason) → Reached tokens (Some t) s → is_shut s.tags (Some t) ≡ false → step s t ≡ Err r → Refuses tokens (Some t) r
+reach_refused tokens t s r h still is =
+    record { place = h.place; leads = reach_leads tokens (Some t) s h still; refused = refused (state_at h.place) t r (ap (λ x. step x t) h.state ∙ is) }

@@ -1,0 +1,13 @@
+//! Trees of pages.
+#![tactic(auto)]
+
+mod contents;
+mod laws;
+mod owned;
+mod reader;
+mod tables;
+mod token;
+
+pub use laws::{never_both, one_document, one_fault};
+pub use owned::Owned;
+pub use token::{Attr, StartTag, Token};

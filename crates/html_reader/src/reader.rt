@@ -1,0 +1,357 @@
+//! Reads tokens into a tree.
+ghost use Rattle.std.specs.Prelude.{◌≡◌, ◌+◌, ◌<◌, ◌≤◌, ◌^◌, ◌++◌, List, [], ◌∷◌, length, map, OnOk, IfOk, IfErr, ◌&&◌, ◌||◌, ◌==◌, not};
+ghost use Rattle.std.specs.Prelude.{string_bytes};
+ghost use Rattle.std.specs.Vec.{vec_len};
+ghost use Rattle.html_reader.specs.Rows.{row_of_attribute, row_of_element};
+ghost use Rattle.html_reader.specs.Places.{below};
+ghost use Rattle.doc_model.specs.Growing.{innermost};
+ghost use Rattle.html_reader.specs.Machine.{state, settled, held, opened, closed, shuts, is_empty, is_named};
+ghost use Rattle.html_reader.specs.Reached.{IsReached};
+ghost use Rattle.html_reader.specs.Taking.{LeadsTo, IsLed, Takes, AllBuild, EndRefused, size};
+ghost use Rattle.doc_model.specs.Growing.{fresh as root_alone};
+ghost use Rattle.html_reader.specs.Kept.{AreKept, EndsInElement};
+ghost use Rattle.html_reader.specs.Pieces.{owned_bytes};
+ghost use Rattle.doc_model.specs.Growing.{growing};
+ghost use Rattle.html_reader.specs.States.{the_state, tags_onto, grown_of, attr_of, tag_of, tok_of, next_of, is_foreign_tag, is_single_last, most_rows, Steps, IsSound, IsKept};
+ghost use Rattle.html_reader.specs.Forest.{is_space};
+ghost use Rattle.std.specs.List.{list_all, list_any};
+ghost use Rattle.html_reader.specs.Words.{is_shut, ends_at};
+ghost use Rattle.html_reader.specs.Tokens.{starts, comment};
+
+use crate::owned::Owned;
+use crate::tables::{is_foreign, is_void, may_omit_end, start_ends};
+use crate::token::{Attr, StartTag, Token};
+use doc_model::{Grow, Piece};
+use std::alloc::Global;
+use text_base::{NoMemory, PageFault, PageReason};
+
+/// Reads tokens into a tree.
+#[derive(Drop)]
+struct Reader<'p, G> {
+    alloc: Global,
+    tags: Vec<StartTag<'p>>,
+    rooted: bool,
+    grow: G,
+    waits: Owned<'p>,
+}
+
+/// Gives the element that was just begun its attributes.
+fn push_attrs<'p, G: Grow<'p>>(grow: &mut G, attrs: &[Attr<'p>]) -> Result<(), NoMemory>
+    requires element { EndsInElement (G.growing grow.old) }
+    requires kept { AreKept (map attr_of attrs.now) }
+    requires room { length (G.growing grow.old).rows + length attrs.now < 2 ^ 32 }
+    ensures { OnOk result (G.growing grow.new ≡ growing
+        ((G.growing grow.old).rows ++ map (row_of_attribute (innermost (G.growing grow.old).open_rows)) (map attr_of attrs.now))
+        (G.growing grow.old).open_rows) }
+{
+    for attr in attrs {
+        grow.attr(attr.name.piece(), attr.value.piece())?;
+    }
+    Ok(())
+}
+
+fn is_blank(text: &str) -> bool
+    ensures { result ≡ list_all is_space text.now }
+{
+    text.as_bytes().iter().all(|b| *b == b' '
+        || *b == b'\t'
+        || *b == b'\n'
+        || *b == b'\r'
+        || *b == 12)
+}
+
+fn fault(reason: PageReason, at: usize) -> PageFault
+    ensures reason { result.reason ≡ reason }
+    ensures at { result.at ≡ at }
+{
+    PageFault { reason, at }
+}
+
+fn any_foreign(tags: &[StartTag<'_>]) -> bool
+    ensures { result ≡ list_any is_foreign_tag tags.now }
+{
+    for tag in tags {
+        if is_foreign(tag.name.as_str()) {
+            return true;
+        }
+    }
+    false
+}
+
+fn is_single_last(tags: &[StartTag<'_>], tag: &StartTag<'_>) -> bool
+    ensures { result ≡ is_single_last tags.now tag.now }
+{
+    is_void(tag.name.as_str()) || (tag.slash && any_foreign(tags))
+}
+
+fn token_ends(name: &str, next: &Token<'_>) -> bool
+    ensures { result ≡ ends_at name.now (Some (tok_of next.now)) }
+{
+    match next {
+        Token::Start { from: _, tag } => {
+            may_omit_end(name) && start_ends(name, tag.name.as_str())
+        }
+        Token::End {
+            from: _,
+            name: other,
+        } => may_omit_end(name) && name != other.as_str(),
+        _ => false,
+    }
+}
+
+fn ends_at(name: &str, next: Option<&Token<'_>>) -> bool
+    ensures { result ≡ ends_at name.now (next_of next.entry) }
+{
+    match next {
+        None => may_omit_end(name),
+        Some(next) => token_ends(name, next),
+    }
+}
+
+fn tag_ends(tags: &[StartTag<'_>], tag: &StartTag<'_>, next: Option<&Token<'_>>) -> bool
+    ensures { result ≡ (is_single_last tags.now tag.now || ends_at (owned_bytes tag.now.name) (next_of next.entry)) }
+{
+    is_single_last(tags, tag) || ends_at(tag.name.as_str(), next)
+}
+
+impl<'p, G: Grow<'p> + Drop> Reader<'p, G> {
+    /// Gives the text that waits its row.
+    fn flush(&mut self) -> Result<(), NoMemory>
+        requires sound { IsSound (the_state self.old.tags.items self.old.rooted (G.growing self.old.grow) (owned_bytes self.old.waits)) }
+        requires room { length (G.growing self.old.grow).rows + 1 < 2 ^ 32 }
+        ensures grown { OnOk result (grown_of (G.growing self.new.grow) (owned_bytes self.new.waits) ≡ settled (grown_of (G.growing self.old.grow) (owned_bytes self.old.waits))) }
+        ensures tags { self.new.tags ≡ self.old.tags }
+        ensures rooted { self.new.rooted ≡ self.old.rooted }
+    {
+        if self.tags.len() == 0 {
+            self.waits = Owned::Page("");
+            return Ok(());
+        }
+        if self.waits.as_str().is_empty() {
+            return Ok(());
+        }
+        self.grow.text(self.waits.piece())?;
+        self.waits = Owned::Page("");
+        Ok(())
+    }
+
+    /// Begins an element.
+
+    fn start(&mut self, tag: StartTag<'p>) -> Result<(), NoMemory>
+        requires sound { IsSound (the_state self.old.tags.items self.old.rooted (G.growing self.old.grow) (owned_bytes self.old.waits)) }
+        requires kept { IsKept (starts (tag_of tag)) }
+        requires room { length (G.growing self.old.grow).rows + 2 + length tag.attrs.items < 2 ^ 32 }
+        ensures { OnOk result (the_state self.new.tags.items self.new.rooted (G.growing self.new.grow) (owned_bytes self.new.waits)
+            ≡ opened (the_state self.old.tags.items self.old.rooted (G.growing self.old.grow) (owned_bytes self.old.waits)) (tag_of tag.entry)) }
+    {
+        self.flush()?;
+        self.grow.element(tag.name.piece())?;
+        push_attrs(&mut self.grow, tag.attrs.as_slice())?;
+        self.tags.push(tag)?;
+        self.rooted = true;
+        Ok(())
+    }
+
+    /// Ends the innermost element.
+
+    fn end(&mut self) -> Result<(), NoMemory>
+        requires sound { IsSound (the_state self.old.tags.items self.old.rooted (G.growing self.old.grow) (owned_bytes self.old.waits)) }
+        requires some { 0 < vec_len self.old.tags }
+        requires room { length (G.growing self.old.grow).rows + 1 < 2 ^ 32 }
+        ensures { OnOk result (the_state self.new.tags.items self.new.rooted (G.growing self.new.grow) (owned_bytes self.new.waits)
+            ≡ closed (the_state self.old.tags.items self.old.rooted (G.growing self.old.grow) (owned_bytes self.old.waits))) }
+    {
+        self.flush()?;
+        self.grow.close();
+        let _last = self.tags.pop();
+        Ok(())
+    }
+
+    /// Adds a comment.
+    fn comment(&mut self, content: &'p str) -> Result<(), NoMemory>
+        requires sound { IsSound (the_state self.old.tags.items self.old.rooted (G.growing self.old.grow) (owned_bytes self.old.waits)) }
+        requires room { length (G.growing self.old.grow).rows + 2 < 2 ^ 32 }
+        ensures { OnOk result (the_state self.new.tags.items self.new.rooted (G.growing self.new.grow) (owned_bytes self.new.waits) ≡ held (the_state self.old.tags.items self.old.rooted (G.growing self.old.grow) (owned_bytes self.old.waits)) (comment content.now)) }
+    {
+        self.flush()?;
+        self.grow.comment(Piece::Page(content))?;
+        Ok(())
+    }
+
+    /// Lets a text wait behind those that wait already.
+    fn wait(&mut self, content: Owned<'p>) -> Result<(), NoMemory>
+        ensures waits { OnOk result (owned_bytes self.new.waits ≡ owned_bytes self.old.waits ++ owned_bytes content.entry) }
+        ensures tags { self.new.tags ≡ self.old.tags }
+        ensures rooted { self.new.rooted ≡ self.old.rooted }
+        ensures grow { self.new.grow ≡ self.old.grow }
+    {
+        if self.waits.as_str().is_empty() {
+            self.waits = content;
+            return Ok(());
+        }
+        self.waits.push(self.alloc, content.as_str())?;
+        Ok(())
+    }
+
+    #[tactic(auto, using(crate::proofs::TestLemmas::none))]
+    fn has_none(&self) -> bool
+        ensures { result ≡ is_empty (tags_onto [] self.now.tags.items) }
+    {
+        self.tags.len() == 0
+    }
+
+    /// Tells whether a start tag is a second root.
+    fn is_second(&self) -> bool
+        ensures { result ≡ (is_empty (tags_onto [] self.now.tags.items) && self.now.rooted) }
+    {
+        self.has_none() && self.rooted
+    }
+
+    #[tactic(auto, using(crate::proofs::TestLemmas::deep))]
+    fn is_deep(&self) -> bool
+        ensures { result ≡ (length (tags_onto [] self.now.tags.items) == 512) }
+    {
+        self.tags.len() == 512
+    }
+
+    /// Tells whether a text may not stand here.
+    fn is_outside(&self, content: &str) -> bool
+        ensures { result ≡ (is_empty (tags_onto [] self.now.tags.items) && not (list_all is_space content.now)) }
+    {
+        self.has_none() && !is_blank(content)
+    }
+
+    /// Tells whether the innermost open element has the name.
+    fn is_innermost(&self, name: &str) -> bool
+        ensures { result ≡ is_named (tags_onto [] self.now.tags.items) name.now }
+    {
+        match self.tags.last() {
+            None => false,
+            Some(tag) => tag.name.as_str() == name,
+        }
+    }
+
+    /// Tells whether the next token, or the end, inserts an end.
+    fn is_shut(&self, next: Option<&Token<'p>>) -> bool
+        ensures { result ≡ is_shut (tags_onto [] self.now.tags.items) (next_of next.entry) }
+    {
+        match self.tags.last() {
+            None => false,
+            Some(tag) => tag_ends(self.tags.as_slice(), tag, next),
+        }
+    }
+
+    /// Inserts the ends that the next token, or the end of the text, asks for.
+    fn shut_ends(&mut self, next: Option<&Token<'p>>) -> Result<(), NoMemory>
+        requires reached { IsReached (next_of next) (the_state self.old.tags.items self.old.rooted (G.growing self.old.grow) (owned_bytes self.old.waits)) }
+        requires room { length (G.growing self.old.grow).rows + length (tags_onto [] self.old.tags.items) + 1 < 2 ^ 32 }
+        ensures { OnOk result (the_state self.new.tags.items self.new.rooted (G.growing self.new.grow) (owned_bytes self.new.waits)
+            ≡ shuts (next_of next.entry) (the_state self.old.tags.items self.old.rooted (G.growing self.old.grow) (owned_bytes self.old.waits))) }
+    {
+        while self.is_shut(next) {
+            self.end()?;
+        }
+        Ok(())
+    }
+
+    /// Takes a token, where no end is to be inserted.
+    #[tactic(auto, using(crate::proofs::TestLemmas::some_named))]
+    fn step(&mut self, token: Token<'p>) -> Result<(), PageFault>
+        requires sound { IsSound (the_state self.old.tags.items self.old.rooted (G.growing self.old.grow) (owned_bytes self.old.waits)) }
+        requires kept { IsKept (tok_of token) }
+        requires room { length (G.growing self.old.grow).rows + most_rows (tok_of token) < 2 ^ 32 }
+        ensures { Steps (the_state self.old.tags.items self.old.rooted (G.growing self.old.grow) (owned_bytes self.old.waits)) token.entry result
+            (the_state self.new.tags.items self.new.rooted (G.growing self.new.grow) (owned_bytes self.new.waits)) }
+    {
+        match token {
+            Token::Start { from, tag } => {
+                if self.is_second() {
+                    return Err(fault(PageReason::SecondRoot, from));
+                }
+                if self.is_deep() {
+                    return Err(fault(PageReason::Deep, from));
+                }
+                if self.start(tag).is_err() {
+                    return Err(fault(PageReason::Memory, 0));
+                }
+                Ok(())
+            }
+            Token::End { from, name } => {
+                if !self.is_innermost(name.as_str()) {
+                    return Err(fault(PageReason::StrayEnd, from));
+                }
+                if self.end().is_err() {
+                    return Err(fault(PageReason::Memory, 0));
+                }
+                Ok(())
+            }
+            Token::Text { from, content } => {
+                if self.is_outside(content.as_str()) {
+                    return Err(fault(PageReason::TextOutside, from));
+                }
+                if self.wait(content).is_err() {
+                    return Err(fault(PageReason::Memory, 0));
+                }
+                Ok(())
+            }
+            Token::Comment { from: _, content } => {
+                if self.comment(content).is_err() {
+                    return Err(fault(PageReason::Memory, 0));
+                }
+                Ok(())
+            }
+            Token::Doctype { from: _ } => Ok(()),
+        }
+    }
+
+    /// Before the first token.
+    fn new(alloc: Global, grow: G) -> Reader<'p, G>
+        requires { G.growing grow ≡ root_alone }
+        ensures led { LeadsTo [] (the_state result.tags.items result.rooted (G.growing result.grow) (owned_bytes result.waits)) }
+        ensures size { size (the_state result.tags.items result.rooted (G.growing result.grow) (owned_bytes result.waits)) ≡ 1 }
+    {
+        Reader {
+            alloc,
+            tags: Vec::new(alloc),
+            rooted: false,
+            grow,
+            waits: Owned::Page(""),
+        }
+    }
+
+    /// Reads the next token.
+    fn take(&mut self, token: Token<'p>) -> Result<(), PageFault>
+        requires led { IsLed (the_state self.old.tags.items self.old.rooted (G.growing self.old.grow) (owned_bytes self.old.waits)) }
+        requires kept { IsKept (tok_of token) }
+        requires room { size (the_state self.old.tags.items self.old.rooted (G.growing self.old.grow) (owned_bytes self.old.waits)) + most_rows (tok_of token) + 1 < 2 ^ 32 }
+        ensures { Takes (the_state self.old.tags.items self.old.rooted (G.growing self.old.grow) (owned_bytes self.old.waits)) token.entry result (the_state self.new.tags.items self.new.rooted (G.growing self.new.grow) (owned_bytes self.new.waits)) }
+    {
+        if self.shut_ends(Some(&token)).is_err() {
+            return Err(fault(PageReason::Memory, 0));
+        }
+        self.step(token)
+    }
+
+    /// Reads the end of the text, which is its place.
+    fn finish(mut self, end: usize) -> Result<G::Done, PageFault>
+        requires led { IsLed (the_state self.tags.items self.rooted (G.growing self.grow) (owned_bytes self.waits)) }
+        requires room { size (the_state self.tags.items self.rooted (G.growing self.grow) (owned_bytes self.waits)) + 1 < 2 ^ 32 }
+        ensures ok { IfOk result (λ done. AllBuild (the_state self.entry.tags.items self.entry.rooted (G.growing self.entry.grow) (owned_bytes self.entry.waits)) (G.Done.document done)) }
+        ensures err { IfErr result (λ fault. EndRefused (the_state self.entry.tags.items self.entry.rooted (G.growing self.entry.grow) (owned_bytes self.entry.waits)) end fault) }
+    {
+        if self.shut_ends(None).is_err() {
+            return Err(fault(PageReason::Memory, 0));
+        }
+        if !self.has_none() {
+            return Err(fault(PageReason::Unclosed, end));
+        }
+        if !self.rooted {
+            return Err(fault(PageReason::NoRoot, end));
+        }
+        let Reader { grow, .. } = self;
+        match grow.finish() {
+            Ok(done) => Ok(done),
+            Err(_) => Err(fault(PageReason::Memory, 0)),
+        }
+    }
+}
