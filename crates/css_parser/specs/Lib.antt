@@ -1,0 +1,10 @@
+pub mod Grammar
+pub mod Laws
+pub mod Lists
+pub mod Names
+pub mod Nth
+pub mod Places
+pub mod Reading
+pub mod Refusals
+pub mod Selecting
+pub mod Simples

@@ -1,0 +1,74 @@
+-- What is refused of a list that the grammar reads: the first from left to right.
+use Rattle.std.specs.Prelude.{ℕ, ◌&&◌, ◌||◌, not, Bool, true, false, if◌then◌else◌, List, [], ◌∷◌, Option, Some, None}
+use Rattle.text_base.specs.declared.reasons.SelectorFault.{SelectorFault}
+use Rattle.text_base.specs.declared.reasons.SelectorFault.TheVariants as fault
+use Rattle.css_meaning.specs.declared.selector.Nth.{Nth}
+use Rattle.css_meaning.specs.declared.selector.Nth.TheVariants as nth
+use Rattle.css_meaning.specs.declared.selector.Pseudo.{Pseudo}
+use Rattle.css_meaning.specs.declared.selector.Pseudo.TheVariants as pseudo
+use Rattle.css_meaning.specs.declared.selector.Test.{Test}
+use Rattle.css_meaning.specs.declared.selector.Test.TheVariants as test
+use Rattle.css_parser.specs.declared.pieces.Piece.{Piece}
+use Rattle.css_parser.specs.declared.pieces.Piece.TheVariants as piece
+use Rattle.css_parser.specs.declared.pieces.Form.{Form}
+use Rattle.css_parser.specs.declared.pieces.Compound.{Compound}
+
+abbrev pub is_none : Option (List ℕ) → Bool
+is_none None = true
+is_none (Some n) = false
+
+-- positions that are counted among the elements of one name
+abbrev pub is_of_type : Nth → Bool
+is_of_type nth.Child = false
+is_of_type nth.LastChild = false
+is_of_type nth.OfType = true
+is_of_type nth.LastOfType = true
+
+abbrev pub is_only_of_type : Pseudo → Bool
+is_only_of_type pseudo.OnlyOfType = true
+is_only_of_type _ = false
+
+abbrev pub needs_element : Test → Bool
+needs_element (test.Nth kind a b) = is_of_type kind
+needs_element (test.Pseudo p) = is_only_of_type p
+needs_element _ = false
+
+abbrev pub if_refused : Bool → SelectorFault → Option SelectorFault
+if_refused b fault = if b then Some fault else None
+
+-- the refusal of a piece, in a compound without an element's name or with one, in a negation or not, and as the last of its
+-- selector or not
+abbrev pub piece_refusal : Bool → Bool → Bool → Piece → Option SelectorFault
+piece_refusal nameless negated last (piece.Plain t) = if_refused (needs_element t && nameless) fault.OfType
+piece_refusal nameless negated last piece.Prefixed = Some fault.Prefix
+piece_refusal nameless negated last piece.Unknown = Some fault.UnknownPseudo
+piece_refusal nameless negated last (piece.Large kind) = Some (if is_of_type kind && nameless then fault.OfType else fault.Number)
+piece_refusal nameless negated last (piece.Tail t) = if_refused (negated || not last) fault.PseudoElement
+piece_refusal nameless negated last piece.Strange = Some fault.PseudoElement
+
+abbrev pub form_refusal : Bool → Bool → Form → Option SelectorFault
+form_refusal nameless last x = piece_refusal nameless x.negated last x.piece
+
+-- the first, or else the other
+abbrev pub or_else : Option SelectorFault → Option SelectorFault → Option SelectorFault
+or_else (Some fault) other = Some fault
+or_else None other = other
+
+abbrev pub is_empty : {A : Type 0} → List A → Bool
+is_empty [] = true
+is_empty (x ∷ xs) = false
+
+abbrev pub forms_refusal : Bool → Bool → List Form → Option SelectorFault
+forms_refusal nameless last [] = None
+forms_refusal nameless last (x ∷ xs) = or_else (form_refusal nameless (last && is_empty xs) x) (forms_refusal nameless last xs)
+
+abbrev pub compound_refusal : Bool → Compound → Option SelectorFault
+compound_refusal last c = or_else (if_refused c.prefixed fault.Prefix) (forms_refusal (is_none c.element) last c.forms)
+
+abbrev pub selector_refusal : List Compound → Option SelectorFault
+selector_refusal [] = None
+selector_refusal (c ∷ cs) = or_else (compound_refusal (is_empty cs) c) (selector_refusal cs)
+
+abbrev pub refusal : List (List Compound) → Option SelectorFault
+refusal [] = None
+refusal (s ∷ ss) = or_else (selector_refusal s) (refusal ss)

@@ -1,0 +1,6 @@
+//! The grammar of selectors, after Selectors Level 3, section 10: tokens, then what stands in a
+//! list, then what of it is refused.
+#![tactic(auto)]
+
+mod nth;
+mod pieces;
