@@ -3,3 +3,4 @@ pub mod ContentLemmas
 pub mod EscapeLemmas
 pub mod SpellLemmas
 pub mod TokenLemmas
+pub mod TokenPlaces

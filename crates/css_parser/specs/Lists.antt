@@ -30,8 +30,11 @@ tail_by old _ = old
 abbrev pub tail_after : Tail → Compound → Tail
 tail_after old c = fold (λ (t : Tail) (x : Form). tail_by t x.piece) old c.forms
 
+abbrev pub tail_of : List Compound → Tail
+tail_of cs = fold tail_after tail.Element cs
+
 abbrev pub selector_of : List Compound → Selector
-selector_of cs = record { parts = map part_of cs; tail = fold tail_after tail.Element cs }
+selector_of cs = record { parts = map part_of cs; tail = tail_of cs }
 
 abbrev pub list_of : List (List Compound) → SelectorList
 list_of ss = record { items = map selector_of ss }

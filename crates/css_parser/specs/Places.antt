@@ -69,6 +69,10 @@ is_name ts i = stands kind.Ident ts i || stands kind.Star ts i
 abbrev pub is_word : List CssToken → ℕ → Bool
 is_word ts i = stands kind.Ident ts i || stands kind.Quoted ts i
 
+-- the bytes of the value of the token at i
+unfoldable pub text_at : List CssToken → ℕ → List ℕ
+text_at ts i = encode_utf8_all (value_in (slice_get ts i))
+
 -- the name is the word, in any ASCII letter case
 abbrev pub is_called : List ℕ → List ℕ → Bool
-is_called name word = str_eq_ignore_ascii_case (encode_utf8_all name) word
+is_called name word = str_eq_ignore_ascii_case name word

@@ -34,7 +34,10 @@ needs_element (test.Pseudo p) = is_only_of_type p
 needs_element _ = false
 
 abbrev pub if_refused : Bool → SelectorFault → Option SelectorFault
-if_refused b fault = if b then Some fault else None
+if_refused b f = if b then Some f else None
+
+abbrev pub large_refusal : Bool → Nth → SelectorFault
+large_refusal nameless position = if is_of_type position && nameless then fault.OfType else fault.Number
 
 -- the refusal of a piece, in a compound without an element's name or with one, in a negation or not, and as the last of its
 -- selector or not
@@ -42,7 +45,7 @@ abbrev pub piece_refusal : Bool → Bool → Bool → Piece → Option SelectorF
 piece_refusal nameless negated last (piece.Plain t) = if_refused (needs_element t && nameless) fault.OfType
 piece_refusal nameless negated last piece.Prefixed = Some fault.Prefix
 piece_refusal nameless negated last piece.Unknown = Some fault.UnknownPseudo
-piece_refusal nameless negated last (piece.Large kind) = Some (if is_of_type kind && nameless then fault.OfType else fault.Number)
+piece_refusal nameless negated last (piece.Large position) = Some (large_refusal nameless position)
 piece_refusal nameless negated last (piece.Tail t) = if_refused (negated || not last) fault.PseudoElement
 piece_refusal nameless negated last piece.Strange = Some fault.PseudoElement
 
@@ -51,7 +54,7 @@ form_refusal nameless last x = piece_refusal nameless x.negated last x.piece
 
 -- the first, or else the other
 abbrev pub or_else : Option SelectorFault → Option SelectorFault → Option SelectorFault
-or_else (Some fault) other = Some fault
+or_else (Some f) other = Some f
 or_else None other = other
 
 abbrev pub is_empty : {A : Type 0} → List A → Bool

@@ -1,5 +1,5 @@
 -- Which texts are lists of selectors, and why a text is none.
-use Rattle.std.specs.Prelude.{◌≡◌, ℕ, ◌<◌, ◌≤◌, length, List, Option, Some, None, Result, Ok, Err}
+use Rattle.std.specs.Prelude.{◌≡◌, ℕ, ◌<◌, ◌≤◌, length, List, Some, None}
 use Rattle.css_meaning.specs.declared.selector.SelectorList.{SelectorList}
 use Rattle.css_lexer.specs.declared.tokens.CssToken.{CssToken}
 use Rattle.css_lexer.specs.Tokens.{Lexes, Stops, most_bytes}
@@ -26,12 +26,12 @@ pub record IsUnread (text : List ℕ) : Type 0 where
   pub unread : (found : List (List Compound)) → Reads text tokens found → ⊥
 
 -- tokens spell the text, the grammar reads them, and this is the first of what is refused
-pub record IsRefused (text : List ℕ) (fault : SelectorFault) : Type 0 where
+pub record IsRefused (text : List ℕ) (f : SelectorFault) : Type 0 where
   pub tokens : List CssToken
   pub spelled : Lexes text tokens
   pub found : List (List Compound)
   pub reads : Reads text tokens found
-  pub refused : refusal found ≡ Some fault
+  pub refused : refusal found ≡ Some f
 
 -- Why the text is no list: it has more bytes than it may have, or no token begins at a place, or the grammar does not read
 -- it, or something is refused. Memory is no reason of the text.
@@ -42,10 +42,9 @@ IsFault text fault.Syntax = IsUnread text
 IsFault text fault.XPathLong = ⊥
 IsFault text fault.Unbuilt = ⊥
 IsFault text fault.Memory = ⊥
-IsFault text fault = IsRefused text fault
+IsFault text f = IsRefused text f
 
--- the list that the text is, or why it is none, or want of memory
-abbrev pub IsAnswer : List ℕ → Result SelectorList SelectorFault → Type 0
-IsAnswer text (Ok list) = Accepts text list
-IsAnswer text (Err fault.Memory) = length text ≤ most_bytes
-IsAnswer text (Err fault) = IsFault text fault
+-- why the text gives no list, where want of memory is always a reason
+abbrev pub IsUnlisted : List ℕ → SelectorFault → Type 0
+IsUnlisted text fault.Memory = Unit {0}
+IsUnlisted text f = IsFault text f

@@ -1,7 +1,7 @@
 -- Elements, simple selectors and pseudo-elements, each read from a place of the tokens on: what it is, and the place behind
 -- it. After the grammar of Selectors Level 3, section 10.1.
-use Rattle.std.specs.Prelude.{ℕ, ◌+◌, ◌-◌, ◌==◌, ◌&&◌, ◌||◌, not, nat_le, nat_lt, Bool, true, false, if◌then◌else◌, List, [], ◌∷◌, drop, length, slice_range, slice_get, count_by, flat_map, range_with_len, Option, Some, None, ℤ, pos, neg_ℤ, codes}
-use Rattle.std.specs.List.{prefix_len}
+use Rattle.std.specs.Prelude.{ℕ, ◌+◌, ◌-◌, ◌==◌, ◌&&◌, ◌||◌, not, nat_le, nat_lt, Bool, true, false, if◌then◌else◌, List, [], ◌∷◌, drop, length, slice_range, slice_get, count_by, flat_map, Option, Some, None, ℤ, pos, neg_ℤ, codes}
+use Rattle.std.specs.List.{prefix_len, range_with_len}
 use Rattle.css_meaning.specs.declared.selector.Nth.{Nth}
 use Rattle.css_meaning.specs.declared.selector.Op.{Op}
 use Rattle.css_meaning.specs.declared.selector.Op.TheVariants as op
@@ -17,7 +17,7 @@ use Rattle.css_parser.specs.declared.pieces.Read.{Read}
 use Rattle.css_parser.specs.declared.pieces.Form.{Form}
 use Rattle.css_parser.specs.declared.pieces.FormRead.{FormRead}
 use Rattle.css_parser.specs.declared.pieces.ElementRead.{ElementRead}
-use Rattle.css_parser.specs.Places.{code, stands, value_at, skip, is_name, is_word, is_called, is_space}
+use Rattle.css_parser.specs.Places.{code, stands, value_at, text_at, skip, is_name, is_word, is_called, is_space}
 use Rattle.css_parser.specs.Names.{class_called, nth_called}
 use Rattle.css_parser.specs.Nth.{nth}
 
@@ -95,17 +95,17 @@ abbrev pub signed : Number → ℤ
 signed n = if n.minus then neg_ℤ (pos n.size) else pos n.size
 
 abbrev pub nth_piece : Nth → Line → Piece
-nth_piece kind l = if is_small l.a && is_small l.b then piece.Plain (test.Nth kind (signed l.a) (signed l.b)) else piece.Large kind
+nth_piece position l = if is_small l.a && is_small l.b then piece.Plain (test.Nth position (signed l.a) (signed l.b)) else piece.Large position
 
 abbrev pub nth_read : Nth → Option Line → ℕ → Option Read
-nth_read kind None j = None
-nth_read kind (Some l) j = Some (read (nth_piece kind l) j)
+nth_read position None j = None
+nth_read position (Some l) j = Some (read (nth_piece position l) j)
 
 -- `an+b` and `)`
 unfoldable pub nth_argument : List ℕ → List CssToken → Nth → ℕ → Option Read
-nth_argument text ts kind i =
+nth_argument text ts position i =
     let j = round_close ts i in
-    if stands kind.CloseRound ts j then nth_read kind (nth (written_up_to text ts i j)) (j + 1) else None
+    if stands kind.CloseRound ts j then nth_read position (nth (written_up_to text ts i j)) (j + 1) else None
 
 -- S and `)`, behind a word at i
 abbrev pub closed : List CssToken → Piece → ℕ → Option Read
@@ -144,7 +144,7 @@ abbrev pub is_negation : List ℕ → Bool
 is_negation name = is_called name (codes "not")
 
 abbrev pub class_with : List ℕ → List CssToken → List ℕ → Option Nth → ℕ → Option Read
-class_with text ts name (Some kind) i = nth_argument text ts kind i
+class_with text ts name (Some position) i = nth_argument text ts position i
 class_with text ts name None i =
     if is_called name (codes "contains") then contains_argument ts i
     else (if is_called name (codes "lang") then lang_argument ts i
@@ -155,8 +155,8 @@ class_with text ts name None i =
 -- alone.
 unfoldable pub pseudo_class : List ℕ → List CssToken → ℕ → Option Read
 pseudo_class text ts i =
-    if stands kind.Ident ts (i + 1) then Some (read (class_called (value_at ts (i + 1))) (i + 2))
-    else (if stands kind.Function ts (i + 1) then class_with text ts (value_at ts (i + 1)) (nth_called (value_at ts (i + 1))) (i + 2)
+    if stands kind.Ident ts (i + 1) then Some (read (class_called (text_at ts (i + 1))) (i + 2))
+    else (if stands kind.Function ts (i + 1) then class_with text ts (text_at ts (i + 1)) (nth_called (text_at ts (i + 1))) (i + 2)
     else None)
 
 abbrev pub strange : Option Read → Option Read
@@ -164,7 +164,7 @@ strange None = None
 strange (Some r) = Some (read piece.Strange r.end)
 
 abbrev pub element_with : List ℕ → List CssToken → List ℕ → Option Nth → ℕ → Option Read
-element_with text ts name (Some kind) i = strange (nth_argument text ts kind i)
+element_with text ts name (Some position) i = strange (nth_argument text ts position i)
 element_with text ts name None i =
     if is_called name (codes "attr") then attr_argument ts i
     else (if is_negation name then None
@@ -176,9 +176,13 @@ element_called name = if is_called name (codes "text") then piece.Tail tail.Text
 -- pseudo-element: `::` and an Ident, or `::`, a Function, its argument and `)`
 unfoldable pub pseudo_element : List ℕ → List CssToken → ℕ → Option Read
 pseudo_element text ts i =
-    if stands kind.Ident ts (i + 1) then Some (read (element_called (value_at ts (i + 1))) (i + 2))
-    else (if stands kind.Function ts (i + 1) then element_with text ts (value_at ts (i + 1)) (nth_called (value_at ts (i + 1))) (i + 2)
+    if stands kind.Ident ts (i + 1) then Some (read (element_called (text_at ts (i + 1))) (i + 2))
+    else (if stands kind.Function ts (i + 1) then element_with text ts (text_at ts (i + 1)) (nth_called (text_at ts (i + 1))) (i + 2)
     else None)
+
+-- Hash
+abbrev pub id : List CssToken → ℕ → Option Read
+id ts i = Some (read (piece.Plain (test.Id (value_at ts i))) (i + 1))
 
 -- class: `.` and an Ident
 abbrev pub class : List CssToken → ℕ → Option Read
@@ -187,7 +191,7 @@ class ts i = if stands kind.Ident ts (i + 1) then Some (read (piece.Plain (test.
 -- a simple selector that is no negation, or a pseudo-element
 unfoldable pub piece_at : List ℕ → List CssToken → ℕ → Option Read
 piece_at text ts i =
-    if stands kind.Hash ts i then Some (read (piece.Plain (test.Id (value_at ts i))) (i + 1))
+    if stands kind.Hash ts i then id ts i
     else (if stands kind.Dot ts i then class ts i
     else (if stands kind.OpenSquare ts i then attribute ts i
     else (if stands kind.Colon ts i then pseudo_class text ts i
@@ -226,7 +230,7 @@ not_negated None = None
 not_negated (Some r) = Some (form_read (form false r.piece) r.end)
 
 abbrev pub begins_negation : List CssToken → ℕ → Bool
-begins_negation ts i = stands kind.Colon ts i && stands kind.Function ts (i + 1) && is_negation (value_at ts (i + 1))
+begins_negation ts i = stands kind.Colon ts i && stands kind.Function ts (i + 1) && is_negation (text_at ts (i + 1))
 
 -- a simple selector or a pseudo-element
 unfoldable pub simple : List ℕ → List CssToken → ℕ → Option FormRead

@@ -2,5 +2,13 @@
 //! list, then what of it is refused.
 #![tactic(auto)]
 
+mod arguments;
+mod attributes;
+mod grammar;
+mod lists;
+mod names;
 mod nth;
 mod pieces;
+mod places;
+mod refusals;
+mod simples;

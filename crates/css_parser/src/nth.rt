@@ -1,5 +1,5 @@
 //! The argument of the pseudo-classes of position, after Selectors Level 3, section 6.6.5.1.
-ghost use Rattle.std.specs.Prelude.{◌≡◌, ℕ, ◌+◌, ◌<◌, ◌≤◌, ◌^◌, true, length, slice_index};
+ghost use Rattle.std.specs.Prelude.{◌≡◌, ℕ, ◌+◌, ◌<◌, ◌≤◌, ◌^◌, true, false, length, slice_index};
 ghost use Rattle.css_parser.specs.Nth as spec;
 
 /// A number with a sign, all beyond 1,000,000 in size taken as 1,000,001.
@@ -67,4 +67,179 @@ fn past_digits(s: &[u8], from: usize) -> usize
         at += 1;
     }
     at
+}
+
+/// The number that the digits between two places spell, all beyond 1,000,000 taken as 1,000,001.
+#[tactic(auto, unfolding(crate::specs::Nth::size), using(crate::proofs::NthLemmas::no_digits, crate::proofs::NthLemmas::one_digit))]
+fn size(s: &[u8], from: usize, to: usize) -> u32
+    requires order { from ≤ to }
+    requires within { to ≤ length s.now }
+    requires digits { (k : ℕ) → from ≤ k → k < to → spec.is_digit (slice_index s.now k) ≡ true }
+    ensures value { result ≡ spec.size s.now from to }
+    ensures capped { result ≤ 1000001 }
+{
+    let mut value = 0;
+    let mut at = from;
+    while at < to {
+        value = (value * 10 + (s[at] as u32 - 48)).min(MOST);
+        at += 1;
+    }
+    value
+}
+
+/// Whether from a place on stand spaces alone.
+fn ends(s: &[u8], at: usize) -> bool
+    requires { at ≤ length s.now }
+    ensures { result ≡ spec.ends s.now at }
+{
+    past_blanks(s, at) == s.len()
+}
+
+/// Whether the lower-case letter, or its upper case, stands at a place.
+fn is_letter_at(s: &[u8], at: usize, letter: u8) -> bool
+    requires some { 32 < letter }
+    requires ascii { letter < 128 }
+    ensures value { result ≡ spec.is_letter_at s.now at letter }
+    ensures within { result ≡ true → at < length s.now }
+{
+    let byte = byte_of(s, at);
+    byte == letter || (byte < 128 && byte + 32 == letter)
+}
+
+fn is_odd(s: &[u8], at: usize) -> bool
+    requires { at ≤ length s.now }
+    ensures { result ≡ spec.is_odd s.now at }
+{
+    is_letter_at(s, at, b'o') && is_letter_at(s, at + 1, b'd') && is_letter_at(s, at + 2, b'd') && ends(s, at + 3)
+}
+
+fn is_even(s: &[u8], at: usize) -> bool
+    requires { at ≤ length s.now }
+    ensures { result ≡ spec.is_even s.now at }
+{
+    is_letter_at(s, at, b'e')
+        && is_letter_at(s, at + 1, b'v')
+        && is_letter_at(s, at + 2, b'e')
+        && is_letter_at(s, at + 3, b'n')
+        && ends(s, at + 4)
+}
+
+/// A number that ends the text, from its first digit on.
+fn last_number(minus: bool, s: &[u8], at: usize) -> Option<Number>
+    requires { at ≤ length s.now }
+    ensures { result ≡ spec.last_number minus s.now at }
+{
+    let end = past_digits(s, at);
+    if at < end && ends(s, end) {
+        Some(Number {
+            minus,
+            size: size(s, at, end),
+        })
+    } else {
+        None
+    }
+}
+
+/// What stands behind the `n`: nothing, or a sign and digits.
+fn behind_n(s: &[u8], at: usize) -> Option<Number>
+    requires { at ≤ length s.now }
+    ensures { result ≡ spec.behind_n s.now at }
+{
+    let sign = past_blanks(s, at);
+    if sign == s.len() {
+        return Some(Number {
+            minus: false,
+            size: 0,
+        });
+    }
+    if is_sign(s[sign]) {
+        last_number(s[sign] == b'-', s, past_blanks(s, sign + 1))
+    } else {
+        None
+    }
+}
+
+/// The number before the `n`.
+fn factor(minus: bool, s: &[u8], from: usize, to: usize) -> Number
+    requires order { from ≤ to }
+    requires within { to ≤ length s.now }
+    requires digits { (k : ℕ) → from ≤ k → k < to → spec.is_digit (slice_index s.now k) ≡ true }
+    ensures { result ≡ spec.factor minus s.now from to }
+{
+    if from == to {
+        Number { minus, size: 1 }
+    } else {
+        Number {
+            minus,
+            size: size(s, from, to),
+        }
+    }
+}
+
+fn with_b(a: Number, b: Option<Number>) -> Option<Line>
+    ensures { result ≡ spec.with_b a b }
+{
+    match b {
+        Some(b) => Some(Line { a, b }),
+        None => None,
+    }
+}
+
+/// What stands behind an optional sign.
+fn behind_sign(minus: bool, s: &[u8], at: usize) -> Option<Line>
+    requires { at ≤ length s.now }
+    ensures { result ≡ spec.behind_sign minus s.now at }
+{
+    let end = past_digits(s, at);
+    if is_letter_at(s, end, b'n') {
+        with_b(factor(minus, s, at, end), behind_n(s, end + 1))
+    } else {
+        let zero = Number {
+            minus: false,
+            size: 0,
+        };
+        with_b(zero, last_number(minus, s, at))
+    }
+}
+
+fn linear(s: &[u8], at: usize) -> Option<Line>
+    requires { at ≤ length s.now }
+    ensures { result ≡ spec.linear s.now at }
+{
+    let first = byte_of(s, at);
+    if is_sign(first) {
+        behind_sign(first == b'-', s, at + 1)
+    } else {
+        behind_sign(false, s, at)
+    }
+}
+
+/// A line of numbers without signs.
+fn plain_line(a: u32, b: u32) -> Line
+    ensures { result ≡ spec.line (spec.number false a) (spec.number false b) }
+{
+    Line {
+        a: Number {
+            minus: false,
+            size: a,
+        },
+        b: Number {
+            minus: false,
+            size: b,
+        },
+    }
+}
+
+/// The a and b of `an+b`, or none where the text is nothing of the kind.
+pub(crate) fn nth(s: &[u8]) -> Option<Line>
+    ensures { result ≡ spec.nth s.now }
+{
+    let at = past_blanks(s, 0);
+    if is_odd(s, at) {
+        Some(plain_line(2, 1))
+    } else if is_even(s, at) {
+        Some(plain_line(2, 0))
+    } else {
+        linear(s, at)
+    }
 }

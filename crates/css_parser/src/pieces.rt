@@ -2,7 +2,7 @@ use css_meaning::{Link, Nth, Tail, Test};
 use text_base::{Seq, Txt};
 
 /// What a simple selector or a pseudo-element is, before it is looked at whether it may stand there.
-#[derive(Debug, Drop)]
+#[derive(Drop)]
 pub(crate) enum Piece {
     Plain(Test),
     /// An element or an attribute with a prefix.
@@ -18,27 +18,27 @@ pub(crate) enum Piece {
 }
 
 /// A piece, and the place of the token behind it.
-#[derive(Debug, Drop)]
+#[derive(Drop)]
 pub(crate) struct Read {
     pub(crate) piece: Piece,
     pub(crate) end: usize,
 }
 
 /// A piece, or its negation.
-#[derive(Debug, Drop)]
+#[derive(Drop)]
 pub(crate) struct Form {
     pub(crate) negated: bool,
     pub(crate) piece: Piece,
 }
 
-#[derive(Debug, Drop)]
+#[derive(Drop)]
 pub(crate) struct FormRead {
     pub(crate) form: Form,
     pub(crate) end: usize,
 }
 
 /// The name of an element, or None for `*`.
-#[derive(Debug, Drop)]
+#[derive(Drop)]
 pub(crate) struct ElementRead {
     pub(crate) name: Option<Txt>,
     pub(crate) prefixed: bool,
@@ -52,7 +52,7 @@ pub(crate) struct LinkRead {
 }
 
 /// A compound selector, and the combinator before it.
-#[derive(Debug, Drop)]
+#[derive(Drop)]
 pub(crate) struct Compound {
     pub(crate) link: Link,
     /// The name of the element, or None for `*` or no element at all.
@@ -61,13 +61,19 @@ pub(crate) struct Compound {
     pub(crate) forms: Seq<Form>,
 }
 
-#[derive(Debug, Drop)]
+#[derive(Drop)]
+pub(crate) struct FormsRead {
+    pub(crate) forms: Seq<Form>,
+    pub(crate) end: usize,
+}
+
+#[derive(Drop)]
 pub(crate) struct CompoundRead {
     pub(crate) compound: Compound,
     pub(crate) end: usize,
 }
 
-#[derive(Debug, Drop)]
+#[derive(Drop)]
 pub(crate) struct SelectorRead {
     pub(crate) compounds: Seq<Compound>,
     pub(crate) end: usize,

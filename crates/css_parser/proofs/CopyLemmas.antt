@@ -1,0 +1,42 @@
+-- Lists that are built by pushing.
+use Rattle.std.proofs.Common.{◌≡◌, ℕ, ◌+◌, ◌<◌, ◌≤◌, List, [], ◌∷◌, ◌++◌, length, take, get_or, map, flat_map, refl, sym, ◌∙◌, ap, arith}
+use Rattle.std.specs.List.{fold}
+use Rattle.std.proofs.lemmas.List.{take_more, take_all, append-nil, map-append}
+use Rattle.std.proofs.lemmas.List.Sums.{fold_more}
+use Rattle.std.proofs.lemmas.Grind.{flat_map-append}
+use Rattle.css_meaning.specs.declared.selector.Simple.{Simple}
+use Rattle.css_meaning.specs.declared.selector.Part.{Part}
+use Rattle.css_meaning.specs.declared.selector.Selector.{Selector}
+use Rattle.css_meaning.specs.declared.selector.Tail.{Tail}
+use Rattle.css_parser.specs.declared.pieces.Form.{Form}
+use Rattle.css_parser.specs.declared.pieces.Compound.{Compound}
+use Rattle.css_parser.specs.Lists.{form_simples, part_of, tail_by, tail_after, tail_of, selector_of}
+
+pub nothing_more : (xs : List Simple) → xs ++ [] ≡ xs
+nothing_more xs = append-nil xs
+
+pub all_taken : {A : Type 0} (xs : List A) (i : ℕ) → length xs ≤ i → take i xs ≡ xs
+all_taken xs i h = take_all i xs h
+
+longer : {A : Type 0} (xs : List A) (i : ℕ) (x : A) → i < length xs → x ≡ get_or xs i x → take (i + 1) xs ≡ take i xs ++ x ∷ []
+longer xs i x l e = take_more xs i x l ∙ ap (λ y. take i xs ++ y ∷ []) (sym e)
+
+pub simples_more : (xs : List Form) (i : ℕ) (x : Form) → i < length xs → x ≡ get_or xs i x → flat_map form_simples (take (i + 1) xs) ≡ flat_map form_simples (take i xs) ++ form_simples x
+simples_more xs i x l e =
+    ap (flat_map form_simples) (longer xs i x l e) ∙ flat_map-append form_simples (take i xs) (x ∷ [])
+    ∙ ap (λ ys. flat_map form_simples (take i xs) ++ ys) (append-nil (form_simples x))
+
+pub parts_more : (xs : List Compound) (i : ℕ) (x : Compound) → i < length xs → x ≡ get_or xs i x → map part_of (take (i + 1) xs) ≡ map part_of (take i xs) ++ part_of x ∷ []
+parts_more xs i x l e = ap (map part_of) (longer xs i x l e) ∙ map-append part_of (take i xs) (x ∷ [])
+
+pub selectors_more : (xs : List (List Compound)) (i : ℕ) (x : List Compound) → i < length xs → x ≡ get_or xs i x → map selector_of (take (i + 1) xs) ≡ map selector_of (take i xs) ++ selector_of x ∷ []
+selectors_more xs i x l e = ap (map selector_of) (longer xs i x l e) ∙ map-append selector_of (take i xs) (x ∷ [])
+
+abbrev form_tail : Tail → Form → Tail
+form_tail t x = tail_by t x.piece
+
+pub tail_more : (old : Tail) (xs : List Form) (i : ℕ) (x : Form) → i < length xs → x ≡ get_or xs i x → fold form_tail old (take (i + 1) xs) ≡ tail_by (fold form_tail old (take i xs)) x.piece
+tail_more old xs i x l e = fold_more form_tail old xs i x l ∙ ap (form_tail (fold form_tail old (take i xs))) (sym e)
+
+pub tails_more : (xs : List Compound) (i : ℕ) (x : Compound) → i < length xs → x ≡ get_or xs i x → tail_of (take (i + 1) xs) ≡ tail_after (tail_of (take i xs)) x
+tails_more xs i x l e = fold_more tail_after _ xs i x l ∙ ap (tail_after (tail_of (take i xs))) (sym e)

@@ -1,0 +1,23 @@
+-- Digits and their number.
+use Rattle.std.proofs.Common.{◌≡◌, ℕ, ◌+◌, ◌-◌, ◌*◌, ◌<◌, ◌≤◌, List, [], ◌∷◌, length, get_or, take, drop, refl, sym, ◌∙◌, ap, arith}
+use Rattle.std.specs.Prelude.{min, fold, slice_range}
+use Rattle.std.proofs.lemmas.Grind.{fold-append}
+use Rattle.std.proofs.lemmas.List.Edits.{between_more}
+use Rattle.css_parser.specs.Nth.{size}
+
+abbrev spelled : List ℕ → ℕ
+spelled ds = fold (λ n d. 10 * n + (d - 48)) 0 ds
+
+none_between : (s : List ℕ) (i : ℕ) → slice_range s i i ≡ []
+none_between s i = ap (λ n. take n (drop i s)) (let e : i - i ≡ 0 = omega arith in e)
+
+pub no_digits : (s : List ℕ) (i : ℕ) → size s i i ≡ 0
+unfolding size
+no_digits s i = let e = ap spelled (none_between s i) in omega (arith, e)
+
+pub one_digit : (s : List ℕ) (from at value : ℕ) → from ≤ at → at < length s → value ≡ size s from at → min (value * 10 + (get_or s at 0 - 48)) 1000001 ≡ size s from (at + 1)
+unfolding size
+one_digit s from at value low l e =
+    let more : spelled (slice_range s from (at + 1)) ≡ 10 * spelled (slice_range s from at) + (get_or s at 0 - 48) =
+    ap spelled (between_more s from at 0 low l) ∙ fold-append (λ n d. 10 * n + (d - 48)) 0 (slice_range s from at) (get_or s at 0 ∷ []) in
+    omega arith

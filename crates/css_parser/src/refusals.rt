@@ -1,0 +1,141 @@
+//! What is refused of a list that the grammar reads: the first from left to right.
+ghost use Rattle.std.specs.Prelude.{◌≡◌, ◌&&◌};
+ghost use Rattle.css_parser.specs.Refusals as spec;
+
+use crate::pieces::{Compound, Form, Piece};
+use css_meaning::{Nth, Pseudo, Test};
+use text_base::{SelectorFault, Seq, Txt};
+
+/// Whether the position is counted among the elements of one name.
+fn is_of_type(position: Nth) -> bool
+    ensures { result ≡ spec.is_of_type position }
+{
+    match position {
+        Nth::Child | Nth::LastChild => false,
+        Nth::OfType | Nth::LastOfType => true,
+    }
+}
+
+fn is_only_of_type(pseudo: Pseudo) -> bool
+    ensures { result ≡ spec.is_only_of_type pseudo }
+{
+    match pseudo {
+        Pseudo::OnlyOfType => true,
+        _ => false,
+    }
+}
+
+/// Whether the test needs the name of the compound's element.
+fn needs_element(test: &Test) -> bool
+    ensures { result ≡ spec.needs_element test.now }
+{
+    match test {
+        Test::Nth(position, _, _) => is_of_type(*position),
+        Test::Pseudo(pseudo) => is_only_of_type(*pseudo),
+        _ => false,
+    }
+}
+
+fn if_refused(refused: bool, fault: SelectorFault) -> Option<SelectorFault>
+    ensures { result ≡ spec.if_refused refused fault }
+{
+    if refused { Some(fault) } else { None }
+}
+
+/// The refusal of a position with a number beyond a million.
+fn large_refusal(nameless: bool, position: Nth) -> SelectorFault
+    ensures { result ≡ spec.large_refusal nameless position }
+{
+    if is_of_type(position) && nameless {
+        SelectorFault::OfType
+    } else {
+        SelectorFault::Number
+    }
+}
+
+/// The refusal of a piece, in a compound without an element's name or with one, in a negation or
+/// not, and as the last of its selector or not.
+fn piece_refusal(nameless: bool, negated: bool, last: bool, piece: &Piece) -> Option<SelectorFault>
+    ensures { result ≡ spec.piece_refusal nameless negated last piece.now }
+{
+    match piece {
+        Piece::Plain(test) => if_refused(needs_element(test) && nameless, SelectorFault::OfType),
+        Piece::Prefixed => Some(SelectorFault::Prefix),
+        Piece::Unknown => Some(SelectorFault::UnknownPseudo),
+        Piece::Large(position) => Some(large_refusal(nameless, *position)),
+        Piece::Tail(_) => if_refused(negated || !last, SelectorFault::PseudoElement),
+        Piece::Strange => Some(SelectorFault::PseudoElement),
+    }
+}
+
+fn form_refusal(nameless: bool, last: bool, form: &Form) -> Option<SelectorFault>
+    ensures { result ≡ spec.form_refusal nameless last form.now }
+{
+    piece_refusal(nameless, form.negated, last, &form.piece)
+}
+
+/// The first refusal of the forms of a compound.
+#[tactic(auto, using(crate::proofs::RefusalLemmas::form_refused, crate::proofs::RefusalLemmas::form_allowed, crate::proofs::RefusalLemmas::no_forms))]
+fn forms_refusal(nameless: bool, last: bool, forms: &[Form]) -> Option<SelectorFault>
+    ensures { result ≡ spec.forms_refusal nameless last forms.now }
+{
+    let mut at = 0;
+    while at < forms.len() {
+        let found = form_refusal(nameless, last && at + 1 == forms.len(), &forms[at]);
+        if let Some(fault) = found {
+            return Some(fault);
+        }
+        at += 1;
+    }
+    None
+}
+
+fn is_none(name: &Option<Txt>) -> bool
+    ensures { result ≡ spec.is_none name.now }
+{
+    match name {
+        None => true,
+        Some(_) => false,
+    }
+}
+
+fn compound_refusal(last: bool, compound: &Compound) -> Option<SelectorFault>
+    ensures { result ≡ spec.compound_refusal last compound.now }
+{
+    if compound.prefixed {
+        return Some(SelectorFault::Prefix);
+    }
+    forms_refusal(is_none(&compound.element), last, compound.forms.as_slice())
+}
+
+/// The first refusal of a selector.
+#[tactic(auto, using(crate::proofs::RefusalLemmas::compound_refused, crate::proofs::RefusalLemmas::compound_allowed, crate::proofs::RefusalLemmas::no_compounds))]
+fn selector_refusal(compounds: &[Compound]) -> Option<SelectorFault>
+    ensures { result ≡ spec.selector_refusal compounds.now }
+{
+    let mut at = 0;
+    while at < compounds.len() {
+        let found = compound_refusal(at + 1 == compounds.len(), &compounds[at]);
+        if let Some(fault) = found {
+            return Some(fault);
+        }
+        at += 1;
+    }
+    None
+}
+
+/// The first refusal of a list.
+#[tactic(auto, using(crate::proofs::RefusalLemmas::selector_refused, crate::proofs::RefusalLemmas::selector_allowed, crate::proofs::RefusalLemmas::no_selectors))]
+pub(crate) fn refusal(list: &[Seq<Compound>]) -> Option<SelectorFault>
+    ensures { result ≡ spec.refusal list.now }
+{
+    let mut at = 0;
+    while at < list.len() {
+        let found = selector_refusal(list[at].as_slice());
+        if let Some(fault) = found {
+            return Some(fault);
+        }
+        at += 1;
+    }
+    None
+}
