@@ -1,7 +1,10 @@
 pub mod ArgumentLemmas
 pub mod CopyLemmas
+pub mod Fitting
 pub mod GrammarLemmas
 pub mod ListLemmas
 pub mod NthLemmas
 pub mod PlaceLemmas
 pub mod RefusalLemmas
+pub mod SelectingLemmas
+pub mod WellMadeLemmas

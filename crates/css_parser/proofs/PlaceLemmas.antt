@@ -1,5 +1,5 @@
 -- Tokens at places.
-use Rattle.std.proofs.Common.{◌≡◌, ℕ, ◌+◌, ◌-◌, ◌<◌, ◌≤◌, Bool, true, false, not, List, [], ◌∷◌, length, drop, get_or, refl, sym, ◌∙◌, ap, subst, arith, eqb-true, inl, inr}
+use Rattle.std.proofs.Common.{◌≡◌, ℕ, ◌+◌, ◌-◌, ◌<◌, ◌≤◌, Bool, true, false, not, List, [], ◌∷◌, length, drop, get_or, refl, sym, ◌∙◌, ap, subst, arith, length-drop, eqb-true, inl, inr}
 use Rattle.std.specs.Prelude.{◌==◌, Option, Some, None, slice_get}
 use Rattle.std.specs.List.{prefix_len}
 use Rattle.std.proofs.lemmas.Bool.Decides.{nat_tests}
@@ -74,3 +74,10 @@ shown ts i l = elim (slice_get_cases ts i).1 [
 pub code_end : (ts : List CssToken) (i : ℕ) → length ts ≤ i → code_at ts i ≡ 0
 unfolding code_at
 code_end ts i l = ap code_in (slice_get_past ts i l)
+
+pub skip_within : (ts : List CssToken) (i : ℕ) → i ≤ length ts → skip ts i ≤ length ts
+unfolding skip
+skip_within ts i l = omega (arith, prefix_len-le-length is_space (drop i ts), length-drop i ts)
+
+pub stands_within : (ts : List CssToken) (i n : ℕ) → 0 < n → (code_at ts i == n) ≡ true → i < length ts
+stands_within ts i n some h = code_within ts i (let e : 0 < code_at ts i = grind (arith, nat_tests) in e)

@@ -5,10 +5,15 @@
 mod arguments;
 mod attributes;
 mod grammar;
+mod laws;
 mod lists;
 mod names;
 mod nth;
+mod parsing;
 mod pieces;
 mod places;
 mod refusals;
 mod simples;
+
+pub use laws::one_list_or_fault;
+pub use parsing::parse_selectors;

@@ -1,0 +1,12 @@
+use Rattle.css_parser.proofs.SelectingLemmas.{one_reading, list_or_fault}
+use Rattle.css_parser.proofs.WellMadeLemmas.{well_made}
+use Rattle.css_parser.proofs.laws.one_list_or_fault.Goals as goal
+
+pub returns-clause-one_list : goal.returns-clause-one_list
+returns-clause-one_list c = one_reading
+
+pub returns-clause-not_both : goal.returns-clause-not_both
+returns-clause-not_both c = list_or_fault
+
+pub returns-clause-well_made : goal.returns-clause-well_made
+returns-clause-well_made c = well_made
