@@ -1,6 +1,6 @@
 -- What stands between a Function and its `)`.
-use Rattle.std.proofs.Common.{◌≡◌, ℕ, ◌+◌, ◌-◌, ◌<◌, ◌≤◌, Bool, true, false, not, List, [], ◌∷◌, ◌++◌, length, drop, take, get_or, flat_map, refl, sym, ◌∙◌, ap, subst, arith, inl, inr, cond, eqb-true}
-use Rattle.std.specs.Prelude.{◌==◌, Option, Some, None, All, slice_get, slice_range, count_by, nat_lt}
+use Rattle.std.proofs.Common.{◌≡◌, ℕ, ◌+◌, ◌-◌, ◌<◌, ◌≤◌, Bool, true, false, not, List, [], ◌∷◌, ◌++◌, length, drop, take, get_or, flat_map, refl, sym, ◌∙◌, ap, subst, arith, cond, eqb-true}
+use Rattle.std.specs.Prelude.{◌==◌, Some, None, slice_range, count_by, nat_lt}
 use Rattle.std.specs.List.{prefix_len, range_with_len}
 use Rattle.std.proofs.lemmas.Bool.Decides.{nat_tests}
 use Rattle.std.proofs.lemmas.List.Edits.{between_more}
@@ -81,6 +81,7 @@ opened ts i j depth low l h o = go (shown ts j l)
   where
     other : (n : ℕ) → (n == 2) ≡ true → (n == 18) ≡ false
     other n e = grind (arith, nat_tests)
+
     go : ((t : CssToken) × (get_or ts j t ≡ t) × (code_at ts j ≡ code t.kind)) → IsOpen ts i (j + 1) (depth + 1)
     go (t, g, e) =
         let is : (code t.kind == 2) ≡ true = subst (λ n. (n == 2) ≡ true) e h in
@@ -93,6 +94,7 @@ shut ts i j depth low l h some o = go (shown ts j l)
   where
     other : (n : ℕ) → (n == 18) ≡ true → (n == 2) ≡ false
     other n e = grind (arith, nat_tests)
+
     go : ((t : CssToken) × (get_or ts j t ≡ t) × (code_at ts j ≡ code t.kind)) → IsOpen ts i (j + 1) (depth - 1)
     go (t, g, e) =
         let is : (code t.kind == 18) ≡ true = subst (λ n. (n == 18) ≡ true) e h in
@@ -115,6 +117,7 @@ one_too_many ts i j low l h o = go (shown ts j l)
   where
     other : (n : ℕ) → (n == 18) ≡ true → (n == 2) ≡ false
     other n e = grind (arith, nat_tests)
+
     go : ((t : CssToken) × (get_or ts j t ≡ t) × (code_at ts j ≡ code t.kind)) → is_more_closed ts i j ≡ true
     go (t, g, e) =
         let is : (code t.kind == 18) ≡ true = subst (λ n. (n == 18) ≡ true) e h in
@@ -148,6 +151,7 @@ balanced_at ts i j depth low l none o = by_kind (stands kind.Function ts j) (sta
     by_depth : (b : Bool) → (depth == 0) ≡ b → stands kind.CloseRound ts j ≡ true → depth_by false true depth ≡ None → balanced_close ts i ≡ j
     by_depth true e c _ = closes_at ts i j depth low (omega arith) o (λ _. one_too_many ts i j low l c (subst (IsOpen ts i j) (eqb-true depth 0 e) o))
     by_depth false e c d = let x : Some (depth - 1) ≡ None = sym (ap (λ b. cond b None (Some (depth - 1))) e) ∙ d in cc
+
     by_kind : (a b : Bool) → stands kind.Function ts j ≡ a → stands kind.CloseRound ts j ≡ b → balanced_close ts i ≡ j
     by_kind true b e f = let x : Some (depth + 1) ≡ None = sym (ap (λ v. depth_by v (stands kind.CloseRound ts j) depth) e) ∙ none in cc
     by_kind false true e f = by_depth (depth == 0) refl f (sym (ap (λ v. depth_by v (stands kind.CloseRound ts j) depth) e ∙ ap (λ v. depth_by false v depth) f) ∙ none)
@@ -165,6 +169,7 @@ balanced_on ts i j depth more low l some o = by_kind (stands kind.Function ts j)
         let x : Some (depth - 1) ≡ Some more = sym (ap (λ b. cond b None (Some (depth - 1))) e) ∙ d in
         let positive : 0 < depth = grind (arith, nat_tests) in
         subst (IsOpen ts i (j + 1)) (inside_some (depth - 1) more x) (shut ts i j depth low l c positive o)
+
     by_kind : (a b : Bool) → stands kind.Function ts j ≡ a → stands kind.CloseRound ts j ≡ b → IsOpen ts i (j + 1) more
     by_kind true b e f = subst (IsOpen ts i (j + 1)) (inside_some (depth + 1) more (sym (ap (λ v. depth_by v (stands kind.CloseRound ts j) depth) e) ∙ some)) (opened ts i j depth low l e o)
     by_kind false true e f = by_depth (depth == 0) refl f (sym (ap (λ v. depth_by v (stands kind.CloseRound ts j) depth) e ∙ ap (λ v. depth_by false v depth) f) ∙ some)

@@ -1,9 +1,8 @@
 -- What simple selectors and pseudo-elements are where they are read, and where they end.
-use Rattle.std.proofs.Common.{◌≡◌, ℕ, ◌+◌, ◌-◌, ◌<◌, ◌≤◌, Bool, true, false, ◌&&◌, ◌||◌, cond, List, [], ◌∷◌, length, refl, sym, ◌∙◌, ap, subst, arith, zero, suc, ℤ, pos, neg_ℤ}
-use Rattle.std.specs.Prelude.{◌==◌, Option, Some, None, nat_lt, nat_le, nat_abs, codes}
+use Rattle.std.proofs.Common.{◌≡◌, ℕ, ◌+◌, ◌<◌, ◌≤◌, Bool, true, false, ◌&&◌, ◌||◌, cond, List, [], length, refl, sym, subst, arith, zero, suc, pos, neg_ℤ}
+use Rattle.std.specs.Prelude.{◌==◌, Option, Some, None, nat_lt, nat_abs, codes}
 use Rattle.std.proofs.lemmas.Bool.Decides.{nat_tests}
 use Rattle.css_lexer.proofs.EscapeLemmas.{cases_if}
-use Rattle.css_lexer.specs.declared.tokens.CssKind.{CssKind}
 use Rattle.css_lexer.specs.declared.tokens.CssKind.TheVariants as kind
 use Rattle.css_lexer.specs.declared.tokens.CssToken.{CssToken}
 use Rattle.css_meaning.specs.declared.selector.Nth.{Nth}
@@ -22,9 +21,8 @@ use Rattle.css_parser.specs.declared.pieces.Read.{Read}
 use Rattle.css_parser.specs.declared.pieces.Form.{Form}
 use Rattle.css_parser.specs.declared.pieces.FormRead.{FormRead}
 use Rattle.css_parser.specs.declared.pieces.ElementRead.{ElementRead}
-use Rattle.css_parser.specs.Places.{code, code_at, stands, value_at, text_at, skip, is_name, is_word, is_called}
+use Rattle.css_parser.specs.Places.{code_at, stands, value_at, text_at, skip, is_name, is_word, is_called}
 use Rattle.css_parser.specs.Names.{first_or_last, pseudo_called, pseudo_piece, position_piece, class_called, nth_called}
-use Rattle.css_parser.specs.Nth.{nth}
 use Rattle.css_parser.specs.Simples as s
 use Rattle.css_parser.specs.Reading.{IsBehind}
 use Rattle.css_parser.proofs.PlaceLemmas.{code_within, skip_order, stands_within}

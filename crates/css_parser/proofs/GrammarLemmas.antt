@@ -1,6 +1,5 @@
 -- Compounds and selectors, as long as they go.
-use Rattle.std.proofs.Common.{◌≡◌, ℕ, ◌+◌, ◌-◌, ◌<◌, ◌≤◌, Bool, true, false, List, [], ◌∷◌, ◌++◌, length, refl, sym, ◌∙◌, ap, subst, arith, cond, eqb-true}
-use borrow.Author.Tests.{ltb-true}
+use Rattle.std.proofs.Common.{◌≡◌, ℕ, ◌+◌, ◌<◌, ◌≤◌, Bool, true, false, List, [], ◌∷◌, ◌++◌, length, refl, sym, ◌∙◌, ap, subst, arith, cond, eqb-true}
 use Rattle.std.proofs.lemmas.Bool.Decides.{nat_tests}
 use Rattle.std.proofs.lemmas.Bool.{cases_lt}
 use Rattle.std.proofs.Common.{inl, inr}
@@ -19,7 +18,7 @@ use Rattle.css_parser.specs.declared.pieces.LinkRead.{LinkRead}
 use Rattle.css_parser.specs.Places.{code_at, stands, skip, is_name}
 use Rattle.css_parser.specs.Simples.{past_prefix, name_at, element, simple, piece_at, form_read}
 use Rattle.css_parser.specs.Grammar.{Simples, HasElement, past_element, IsCompound, linked, combinator, Further, IsSelector}
-use Rattle.css_parser.specs.Reading.{NoCompound, NoFurther, IsEnd, IsFormsRead, IsWholeCompound, IsCompoundRead, IsLinked, IsFurtherRead}
+use Rattle.css_parser.specs.Reading.{NoCompound, NoFurther, IsEnd, IsFormsRead, IsWholeCompound, IsLinked}
 use Rattle.css_parser.proofs.PlaceLemmas.{skip_stop, code_end}
 
 pub not_empty : (b : Bool) (xs : List Form) → (IsTrue b ↔ (xs ≡ [])) → b ≡ false → xs ≢ []
@@ -175,6 +174,7 @@ module _ (text : List ℕ) (ts : List CssToken) where
       by_sign false false false a b c s =
           let none : link_by i i ≡ None = rw a (rw b (rw c (no_move i))) in
           no_link i r (combinator_by i ∙ ap (link_by i) s ∙ none) e
+
       by_space : (b : Bool) → stands kind.Space ts i ≡ b → simple text ts i ≡ None
       by_space true h = quiet_space i (kind_is i 1 h)
       by_space false h = by_sign _ _ _ refl refl refl (skip_stop ts i h)

@@ -1,5 +1,5 @@
 -- Lists of selectors.
-use Rattle.std.proofs.Common.{◌≡◌, ℕ, ◌+◌, ◌<◌, ◌≤◌, Bool, true, false, List, [], ◌∷◌, ◌++◌, length, refl, sym, ◌∙◌, ap, subst, arith, append_assoc}
+use Rattle.std.proofs.Common.{◌≡◌, ℕ, ◌+◌, ◌<◌, true, false, List, [], ◌∷◌, ◌++◌, length, refl, sym, ◌∙◌, subst, arith, append_assoc}
 use Rattle.css_lexer.specs.declared.tokens.CssKind.TheVariants as kind
 use Rattle.css_lexer.specs.declared.tokens.CssToken.{CssToken}
 use Rattle.css_parser.specs.declared.pieces.Compound.{Compound}
@@ -40,9 +40,11 @@ module _ (text : List ℕ) (ts : List CssToken) where
       forth : (rest : List (List Compound)) → From text ts (skip ts (skip ts r.end + 1)) rest → Reads text ts ((done ++ r.compounds ∷ []) ++ rest)
       forth [] g = absurd g
       forth (s ∷ ss) g = subst (Reads text ts) (sym (append_assoc done (r.compounds ∷ []) (s ∷ ss))) (p.goes (r.compounds ∷ s ∷ ss) (r.end, h.is, (g.0, comma, g.1, g.2)))
+
       next : (ss : List (List Compound)) → Others text ts (skip ts r.end) ss → (rest : List (List Compound)) × From text ts (skip ts (skip ts r.end + 1)) rest
       next [] o = not_end (skip ts r.end) inside o
       next (s ∷ ss) o = (s ∷ ss, (o.0, o.2, o.3))
+
       behind : (rest : List (List Compound)) → From text ts i rest → (more : List (List Compound)) × From text ts (skip ts (skip ts r.end + 1)) more
       behind [] f = absurd f
       behind (s ∷ ss) f = next ss (others_after i r s ss h f)
@@ -56,6 +58,7 @@ module _ (text : List ℕ) (ts : List CssToken) where
       no_first : (s : List Compound) (j : ℕ) → IsSelector text ts i s j → ⊥
       no_first [] j h = h
       no_first (c ∷ cs) j h = none c h.0 h.2
+
       nothing : (rest : List (List Compound)) → From text ts i rest → ⊥
       nothing [] f = f
       nothing (s ∷ ss) f = no_first s f.0 f.1
@@ -67,6 +70,7 @@ module _ (text : List ℕ) (ts : List CssToken) where
       neither : (ss : List (List Compound)) → Others text ts (skip ts r.end) ss → ⊥
       neither [] o = not_end (skip ts r.end) inside o
       neither (s ∷ ss) o = let e : true ≡ false = sym o.1 ∙ none in cc
+
       nothing : (rest : List (List Compound)) → From text ts i rest → ⊥
       nothing [] f = f
       nothing (s ∷ ss) f = neither ss (others_after i r s ss h f)

@@ -1,6 +1,6 @@
 -- Which texts are lists, and why a text is none.
-use Rattle.std.proofs.Common.{◌≡◌, ℕ, ◌<◌, ◌≤◌, List, [], ◌∷◌, length, refl, sym, ◌∙◌, ap, subst, arith, Bool, true, false, cond, ◌&&◌, ◌||◌, not}
-use Rattle.std.specs.Prelude.{Option, Some, None, Result, Ok, Err}
+use Rattle.std.proofs.Common.{◌≡◌, ℕ, ◌<◌, ◌≤◌, List, [], ◌∷◌, length, refl, sym, ◌∙◌, ap, subst, arith, Bool, true, false, ◌&&◌, ◌||◌, not}
+use Rattle.std.specs.Prelude.{Option, Some, None, Err}
 use Rattle.css_lexer.specs.declared.tokens.CssToken.{CssToken}
 use Rattle.css_lexer.specs.Tokens.{Lexes, Stops, IsLexed, most_bytes}
 use Rattle.css_lexer.proofs.EscapeLemmas.{cases_if}
@@ -13,7 +13,7 @@ use Rattle.css_parser.specs.declared.pieces.Piece.TheVariants as piece
 use Rattle.css_parser.specs.declared.pieces.Form.{Form}
 use Rattle.css_parser.specs.declared.pieces.Compound.{Compound}
 use Rattle.css_parser.specs.Grammar.{Reads}
-use Rattle.css_parser.specs.Refusals.{or_else, if_refused, is_none, is_empty, is_of_type, needs_element, large_refusal, piece_refusal, form_refusal, forms_refusal, compound_refusal, selector_refusal, refusal}
+use Rattle.css_parser.specs.Refusals.{or_else, if_refused, is_none, is_empty, is_of_type, needs_element, piece_refusal, form_refusal, forms_refusal, compound_refusal, selector_refusal, refusal}
 use Rattle.css_parser.specs.Lists.{list_of}
 use Rattle.css_parser.specs.Selecting.{Accepts, IsUnread, IsRefused, IsFault, IsUnlisted}
 use Rattle.css_parser.specs.Reading.{IsListRead}

@@ -1,30 +1,26 @@
 -- Every accepted list is well made.
-use Rattle.std.proofs.Common.{◌≡◌, ℕ, ◌+◌, ◌-◌, ◌*◌, ◌<◌, ◌≤◌, ◌^◌, Bool, true, false, ◌&&◌, cond, List, [], ◌∷◌, ◌++◌, length, map, flat_map, refl, sym, ◌∙◌, ap, subst, arith, length-append}
-use Rattle.std.specs.Prelude.{◌==◌, ◌≢◌, Option, Some, None, IsSome, All, sum_by, nat_lt}
+use Rattle.std.proofs.Common.{◌≡◌, ℕ, ◌+◌, ◌*◌, ◌<◌, ◌≤◌, Bool, true, false, ◌&&◌, List, [], ◌∷◌, length, map, flat_map, refl, sym, ◌∙◌, ap, subst, arith, length-append}
+use Rattle.std.specs.Prelude.{◌==◌, ◌≢◌, Option, Some, None, All, sum_by, nat_lt}
 use Rattle.std.proofs.lemmas.List.Elements.{All-nil, All-cons, All-append}
 use Rattle.std.proofs.lemmas.List.Sums.{sum_by-cons}
-use Rattle.std.proofs.lemmas.Bool.Decides.{nat_tests}
 use Rattle.css_lexer.proofs.EscapeLemmas.{cases_if}
 use Rattle.css_lexer.proofs.TokenPlaces.{few_tokens}
 use Rattle.css_lexer.specs.declared.tokens.CssKind.TheVariants as kind
 use Rattle.css_lexer.specs.declared.tokens.CssToken.{CssToken}
 use Rattle.css_lexer.specs.Tokens.{Lexes}
 use Rattle.text_base.specs.declared.reasons.SelectorFault.{SelectorFault}
-use Rattle.css_meaning.specs.declared.selector.Link.{Link}
 use Rattle.css_meaning.specs.declared.selector.Link.TheVariants as link
 use Rattle.css_meaning.specs.declared.selector.Nth.{Nth}
 use Rattle.css_meaning.specs.declared.selector.Nth.TheVariants as nth
 use Rattle.css_meaning.specs.declared.selector.Part.{Part}
 use Rattle.css_meaning.specs.declared.selector.Pseudo.{Pseudo}
 use Rattle.css_meaning.specs.declared.selector.Pseudo.TheVariants as pseudo
-use Rattle.css_meaning.specs.declared.selector.Selector.{Selector}
 use Rattle.css_meaning.specs.declared.selector.SelectorList.{SelectorList}
 use Rattle.css_meaning.specs.declared.selector.Simple.{Simple}
 use Rattle.css_meaning.specs.declared.selector.Test.{Test}
 use Rattle.css_meaning.specs.declared.selector.Test.TheVariants as test
 use Rattle.css_meaning.specs.WellMade as made
 use Rattle.css_meaning.specs.WellMade.{WellMade, FitsTest, FitsKind, FitsPseudo}
-use Rattle.css_meaning.specs.Specificity.{size_of}
 use Rattle.css_parser.specs.declared.pieces.Piece.{Piece}
 use Rattle.css_parser.specs.declared.pieces.Piece.TheVariants as piece
 use Rattle.css_parser.specs.declared.pieces.Form.{Form}
@@ -32,14 +28,13 @@ use Rattle.css_parser.specs.declared.pieces.Compound.{Compound}
 use Rattle.css_parser.specs.declared.pieces.ElementRead.{ElementRead}
 use Rattle.css_parser.specs.declared.pieces.LinkRead.{LinkRead}
 use Rattle.css_parser.specs.Places.{code_at, stands, skip}
-use Rattle.css_parser.specs.Simples.{element, simple, form_read}
-use Rattle.css_parser.specs.Grammar.{Simples, HasElement, past_element, IsCompound, linked, combinator, Further, IsSelector, Others, From, Reads}
+use Rattle.css_parser.specs.Simples.{element}
+use Rattle.css_parser.specs.Grammar.{Simples, HasElement, past_element, IsCompound, linked, combinator, Further, IsSelector, Others, Reads}
 use Rattle.css_parser.specs.Refusals.{or_else, if_refused, is_none, is_empty, is_of_type, needs_element, is_only_of_type, form_refusal, piece_refusal, forms_refusal, compound_refusal, selector_refusal, refusal}
 use Rattle.css_parser.specs.Lists.{form_simples, simples_by, part_of, selector_of, list_of}
 use Rattle.css_parser.specs.Selecting.{Accepts}
-use Rattle.css_parser.specs.Reading.{IsBehind}
 use Rattle.css_parser.proofs.PlaceLemmas.{skip_order, skip_within, stands_within}
-use Rattle.css_parser.proofs.Fitting.{FitsAlone, FitsPiece, IsGood, simple_good, element_behind}
+use Rattle.css_parser.proofs.Fitting.{FitsAlone, FitsPiece, simple_good, element_behind}
 
 -- nothing is refused of either
 record Neither (o p : Option SelectorFault) : Type 0 where

@@ -1,5 +1,5 @@
 -- The list of selectors that a list without a refusal is.
-use Rattle.std.specs.Prelude.{ℕ, Bool, List, [], ◌∷◌, map, flat_map}
+use Rattle.std.specs.Prelude.{Bool, List, [], ◌∷◌, map, flat_map}
 use Rattle.std.specs.List.{fold}
 use Rattle.css_meaning.specs.declared.selector.Part.{Part}
 use Rattle.css_meaning.specs.declared.selector.Selector.{Selector}

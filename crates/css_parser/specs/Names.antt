@@ -1,5 +1,5 @@
 -- The names of pseudo-classes, after Selectors Level 3, section 6.6, and `contains`.
-use Rattle.std.specs.Prelude.{ℕ, pos, if◌then◌else◌, List, [], ◌∷◌, Option, Some, None, codes}
+use Rattle.std.specs.Prelude.{ℕ, pos, if◌then◌else◌, List, Option, Some, None, codes}
 use Rattle.css_meaning.specs.declared.selector.Nth.{Nth}
 use Rattle.css_meaning.specs.declared.selector.Nth.TheVariants as nth
 use Rattle.css_meaning.specs.declared.selector.Pseudo.{Pseudo}

@@ -1,5 +1,5 @@
 -- The argument of the pseudo-classes of position, after Selectors Level 3, section 6.6.5.1.
-use Rattle.std.specs.Prelude.{ℕ, ◌+◌, ◌*◌, ◌-◌, ◌==◌, ◌&&◌, ◌||◌, min, nat_le, nat_lt, Bool, true, false, if◌then◌else◌, List, [], ◌∷◌, length, fold, slice_index, slice_range, Option, Some, None}
+use Rattle.std.specs.Prelude.{ℕ, ◌+◌, ◌*◌, ◌-◌, ◌==◌, ◌&&◌, ◌||◌, min, nat_le, nat_lt, Bool, false, if◌then◌else◌, List, length, fold, slice_index, slice_range, Option, Some, None}
 use Rattle.text_base.specs.Text.{run_end}
 use Rattle.css_parser.specs.declared.nth.Number.{Number}
 use Rattle.css_parser.specs.declared.nth.Line.{Line}

@@ -1,5 +1,5 @@
 -- For the contracts of private functions alone: readings that go as far as they can.
-use Rattle.std.specs.Prelude.{◌≡◌, ℕ, ◌<◌, ◌≤◌, ◌+◌, ◌-◌, ◌==◌, Bool, true, false, if◌then◌else◌, List, All, length, slice_range, count_by, ◌++◌, Option, Some, None, Result, Ok, Err}
+use Rattle.std.specs.Prelude.{◌≡◌, ℕ, ◌<◌, ◌≤◌, ◌+◌, ◌-◌, ◌==◌, Bool, false, if◌then◌else◌, List, All, length, slice_range, count_by, ◌++◌, Option, Some, None, Result, Ok, Err}
 use Rattle.css_meaning.specs.declared.selector.Link.{Link}
 use Rattle.css_lexer.specs.declared.tokens.CssToken.{CssToken}
 use Rattle.css_parser.specs.declared.pieces.Compound.{Compound}
@@ -12,7 +12,6 @@ use Rattle.css_parser.specs.declared.pieces.SelectorRead.{SelectorRead}
 use Rattle.css_parser.specs.declared.pieces.LinkRead.{LinkRead}
 use Rattle.css_parser.specs.Simples.{simple, is_opening, is_closing, is_more_closed}
 use Rattle.css_lexer.specs.declared.tokens.CssKind.TheVariants as kind
-use Rattle.css_meaning.specs.declared.selector.Link.TheVariants as link
 use Rattle.css_parser.specs.Places.{stands}
 use Rattle.text_base.specs.declared.reasons.SelectorFault.{SelectorFault}
 use Rattle.text_base.specs.declared.reasons.SelectorFault.TheVariants as fault

@@ -1,6 +1,6 @@
 -- Elements, simple selectors and pseudo-elements, each read from a place of the tokens on: what it is, and the place behind
 -- it. After the grammar of Selectors Level 3, section 10.1.
-use Rattle.std.specs.Prelude.{ℕ, ◌+◌, ◌-◌, ◌==◌, ◌&&◌, ◌||◌, not, nat_le, nat_lt, Bool, true, false, if◌then◌else◌, List, [], ◌∷◌, drop, length, slice_range, slice_get, count_by, flat_map, Option, Some, None, ℤ, pos, neg_ℤ, codes}
+use Rattle.std.specs.Prelude.{ℕ, ◌+◌, ◌-◌, ◌==◌, ◌&&◌, not, nat_le, nat_lt, Bool, true, false, if◌then◌else◌, List, [], ◌∷◌, drop, length, slice_range, count_by, flat_map, Option, Some, None, ℤ, pos, neg_ℤ, codes}
 use Rattle.std.specs.List.{prefix_len, range_with_len}
 use Rattle.css_meaning.specs.declared.selector.Nth.{Nth}
 use Rattle.css_meaning.specs.declared.selector.Op.{Op}

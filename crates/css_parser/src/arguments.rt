@@ -41,7 +41,13 @@ fn push_written(text: &[u8], token: &CssToken, out: &mut Vec<u8>) -> Result<(), 
 
 /// The written texts of the tokens between two places.
 #[tactic(auto, using(crate::proofs::ArgumentLemmas::written_none, crate::proofs::ArgumentLemmas::written_more, crate::proofs::ArgumentLemmas::inside_at))]
-fn written(alloc: Global, text: &str, tokens: &[CssToken], from: usize, to: usize) -> Result<Vec<u8>, NoMemory>
+fn written(
+    alloc: Global,
+    text: &str,
+    tokens: &[CssToken],
+    from: usize,
+    to: usize,
+) -> Result<Vec<u8>, NoMemory>
     requires inside { AreInside text.now tokens.now }
     requires order { from ≤ to }
     requires within { to ≤ length tokens.now }
@@ -84,7 +90,13 @@ fn nth_piece(position: Nth, line: Line) -> Piece
 
 /// The argument `an+b` and `)`, from a place on.
 #[tactic(auto, unfolding(crate::specs::Simples::nth_argument))]
-pub(crate) fn nth_argument(alloc: Global, text: &str, tokens: &[CssToken], position: Nth, at: usize) -> Result<Option<Read>, NoMemory>
+pub(crate) fn nth_argument(
+    alloc: Global,
+    text: &str,
+    tokens: &[CssToken],
+    position: Nth,
+    at: usize,
+) -> Result<Option<Read>, NoMemory>
     requires inside { AreInside text.now tokens.now }
     requires within { at ≤ length tokens.now }
     ensures read { IfOk result (λ read. read ≡ spec.nth_argument text.now tokens.now position at) }
@@ -122,7 +134,11 @@ fn closed(tokens: &[CssToken], piece: Piece, at: usize) -> Option<Read>
 }
 
 /// The argument of `contains`, and `)`.
-pub(crate) fn contains_argument(alloc: Global, tokens: &[CssToken], at: usize) -> Result<Option<Read>, NoMemory>
+pub(crate) fn contains_argument(
+    alloc: Global,
+    tokens: &[CssToken],
+    at: usize,
+) -> Result<Option<Read>, NoMemory>
     requires { at ≤ length tokens.now }
     ensures read { IfOk result (λ read. read ≡ spec.contains_argument tokens.now at) }
     ensures ends { IfOk result (Ends tokens.now at) }
@@ -137,7 +153,11 @@ pub(crate) fn contains_argument(alloc: Global, tokens: &[CssToken], at: usize) -
 }
 
 /// The argument of `lang`, and `)`.
-pub(crate) fn lang_argument(alloc: Global, tokens: &[CssToken], at: usize) -> Result<Option<Read>, NoMemory>
+pub(crate) fn lang_argument(
+    alloc: Global,
+    tokens: &[CssToken],
+    at: usize,
+) -> Result<Option<Read>, NoMemory>
     requires { at ≤ length tokens.now }
     ensures read { IfOk result (λ read. read ≡ spec.lang_argument tokens.now at) }
     ensures ends { IfOk result (Ends tokens.now at) }
@@ -152,7 +172,11 @@ pub(crate) fn lang_argument(alloc: Global, tokens: &[CssToken], at: usize) -> Re
 }
 
 /// The argument of the pseudo-element `attr`, and `)`.
-pub(crate) fn attr_argument(alloc: Global, tokens: &[CssToken], at: usize) -> Result<Option<Read>, NoMemory>
+pub(crate) fn attr_argument(
+    alloc: Global,
+    tokens: &[CssToken],
+    at: usize,
+) -> Result<Option<Read>, NoMemory>
     requires { at ≤ length tokens.now }
     ensures read { IfOk result (λ read. read ≡ spec.attr_argument tokens.now at) }
     ensures ends { IfOk result (Ends tokens.now at) }

@@ -40,7 +40,11 @@ fn name_at(alloc: Global, tokens: &[CssToken], at: usize) -> Result<Option<Txt>,
 
 /// The element at a place, if one stands there.
 #[tactic(auto, unfolding(crate::specs::Simples::element))]
-pub(crate) fn element(alloc: Global, tokens: &[CssToken], at: usize) -> Result<Option<ElementRead>, NoMemory>
+pub(crate) fn element(
+    alloc: Global,
+    tokens: &[CssToken],
+    at: usize,
+) -> Result<Option<ElementRead>, NoMemory>
     requires { at ≤ length tokens.now }
     ensures read { IfOk result (λ read. read ≡ spec.element tokens.now at) }
     ensures ends { IfOk result (EndsElement tokens.now at) }
@@ -91,7 +95,14 @@ fn attribute_piece(prefixed: bool, name: Txt, op: Op, value: Txt) -> Piece
 }
 
 /// What stands behind an operator: a word and `]`.
-fn compared(alloc: Global, tokens: &[CssToken], prefixed: bool, name: Txt, op: Op, at: usize) -> Result<Option<Read>, NoMemory>
+fn compared(
+    alloc: Global,
+    tokens: &[CssToken],
+    prefixed: bool,
+    name: Txt,
+    op: Op,
+    at: usize,
+) -> Result<Option<Read>, NoMemory>
     requires { at ≤ length tokens.now }
     ensures read { IfOk result (λ read. read ≡ spec.compared tokens.now prefixed name (Some op) at) }
     ensures ends { IfOk result (Ends tokens.now at) }
@@ -113,7 +124,13 @@ fn compared(alloc: Global, tokens: &[CssToken], prefixed: bool, name: Txt, op: O
 }
 
 /// What stands behind the name of an attribute.
-fn behind_name(alloc: Global, tokens: &[CssToken], prefixed: bool, name: Txt, at: usize) -> Result<Option<Read>, NoMemory>
+fn behind_name(
+    alloc: Global,
+    tokens: &[CssToken],
+    prefixed: bool,
+    name: Txt,
+    at: usize,
+) -> Result<Option<Read>, NoMemory>
     requires { at ≤ length tokens.now }
     ensures read { IfOk result (λ read. read ≡ spec.behind_name tokens.now prefixed name at) }
     ensures ends { IfOk result (Ends tokens.now at) }
@@ -133,7 +150,11 @@ fn behind_name(alloc: Global, tokens: &[CssToken], prefixed: bool, name: Txt, at
 
 /// The attribute at a place where `[` stands, if it is one.
 #[tactic(auto, unfolding(crate::specs::Simples::attribute))]
-pub(crate) fn attribute(alloc: Global, tokens: &[CssToken], at: usize) -> Result<Option<Read>, NoMemory>
+pub(crate) fn attribute(
+    alloc: Global,
+    tokens: &[CssToken],
+    at: usize,
+) -> Result<Option<Read>, NoMemory>
     requires { at < length tokens.now }
     ensures read { IfOk result (λ read. read ≡ spec.attribute tokens.now at) }
     ensures ends { IfOk result (Ends tokens.now at) }

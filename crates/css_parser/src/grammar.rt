@@ -15,7 +15,12 @@ use text_base::{NoMemory, SelectorFault, Seq};
 
 /// The simple selectors and pseudo-elements from a place on, as many as there are.
 #[tactic(auto, using(crate::proofs::GrammarLemmas::simples_push))]
-fn simples(alloc: Global, text: &str, tokens: &[CssToken], from: usize) -> Result<FormsRead, NoMemory>
+fn simples(
+    alloc: Global,
+    text: &str,
+    tokens: &[CssToken],
+    from: usize,
+) -> Result<FormsRead, NoMemory>
     requires inside { AreInside text.now tokens.now }
     requires within { from ≤ length tokens.now }
     ensures { IfOk result (IsFormsRead text.now tokens.now from) }
@@ -35,7 +40,14 @@ fn simples(alloc: Global, text: &str, tokens: &[CssToken], from: usize) -> Resul
 
 /// A compound of its element and what stands behind it.
 #[tactic(auto, using(crate::proofs::GrammarLemmas::with_element))]
-fn behind_element(alloc: Global, text: &str, tokens: &[CssToken], link: Link, at: usize, element: ElementRead) -> Result<CompoundRead, NoMemory>
+fn behind_element(
+    alloc: Global,
+    text: &str,
+    tokens: &[CssToken],
+    link: Link,
+    at: usize,
+    element: ElementRead,
+) -> Result<CompoundRead, NoMemory>
     requires inside { AreInside text.now tokens.now }
     requires order { at < element.end }
     requires within { element.end ≤ length tokens.now }
@@ -61,7 +73,13 @@ fn behind_element(alloc: Global, text: &str, tokens: &[CssToken], link: Link, at
 
 /// The compound at a place where no element stands, if one stands there.
 #[tactic(auto, using(crate::proofs::GrammarLemmas::without_element, crate::proofs::GrammarLemmas::nothing))]
-fn without_element(alloc: Global, text: &str, tokens: &[CssToken], link: Link, at: usize) -> Result<Option<CompoundRead>, NoMemory>
+fn without_element(
+    alloc: Global,
+    text: &str,
+    tokens: &[CssToken],
+    link: Link,
+    at: usize,
+) -> Result<Option<CompoundRead>, NoMemory>
     requires inside { AreInside text.now tokens.now }
     requires within { at ≤ length tokens.now }
     requires stands { element_at tokens.now at ≡ None }
@@ -83,7 +101,13 @@ fn without_element(alloc: Global, text: &str, tokens: &[CssToken], link: Link, a
 }
 
 /// The compound at a place, if one stands there, as long as it goes.
-fn compound(alloc: Global, text: &str, tokens: &[CssToken], link: Link, at: usize) -> Result<Option<CompoundRead>, NoMemory>
+fn compound(
+    alloc: Global,
+    text: &str,
+    tokens: &[CssToken],
+    link: Link,
+    at: usize,
+) -> Result<Option<CompoundRead>, NoMemory>
     requires inside { AreInside text.now tokens.now }
     requires within { at ≤ length tokens.now }
     ensures { IfOk result (IsCompoundRead text.now tokens.now link at) }
@@ -133,7 +157,12 @@ fn combinator(tokens: &[CssToken], at: usize) -> Option<LinkRead>
 
 /// The combinator and the compound at a place, if both stand there.
 #[tactic(auto, using(crate::proofs::GrammarLemmas::no_combinator, crate::proofs::GrammarLemmas::after_combinator, crate::proofs::GrammarLemmas::no_after))]
-fn further(alloc: Global, text: &str, tokens: &[CssToken], at: usize) -> Result<Option<CompoundRead>, NoMemory>
+fn further(
+    alloc: Global,
+    text: &str,
+    tokens: &[CssToken],
+    at: usize,
+) -> Result<Option<CompoundRead>, NoMemory>
     requires inside { AreInside text.now tokens.now }
     requires within { at ≤ length tokens.now }
     ensures { IfOk result (IsFurtherRead text.now tokens.now at) }
@@ -146,7 +175,12 @@ fn further(alloc: Global, text: &str, tokens: &[CssToken], at: usize) -> Result<
 
 /// The selector at a place, if one stands there, as long as it goes.
 #[tactic(auto, using(crate::proofs::GrammarLemmas::selector_begun, crate::proofs::GrammarLemmas::selector_push))]
-fn selector(alloc: Global, text: &str, tokens: &[CssToken], from: usize) -> Result<Option<SelectorRead>, NoMemory>
+fn selector(
+    alloc: Global,
+    text: &str,
+    tokens: &[CssToken],
+    from: usize,
+) -> Result<Option<SelectorRead>, NoMemory>
     requires inside { AreInside text.now tokens.now }
     requires within { from ≤ length tokens.now }
     ensures { IfOk result (IsSelectorRead text.now tokens.now from) }
@@ -164,10 +198,7 @@ fn selector(alloc: Global, text: &str, tokens: &[CssToken], from: usize) -> Resu
                 at = read.end;
             }
             None => {
-                return Ok(Some(SelectorRead {
-                    compounds,
-                    end: at,
-                }));
+                return Ok(Some(SelectorRead { compounds, end: at }));
             }
         }
     }
@@ -175,7 +206,11 @@ fn selector(alloc: Global, text: &str, tokens: &[CssToken], from: usize) -> Resu
 
 /// The list that the tokens are: `Syntax` where the grammar reads them as none.
 #[tactic(auto, using(crate::proofs::ListLemmas::begun, crate::proofs::ListLemmas::went_on, crate::proofs::ListLemmas::finished, crate::proofs::ListLemmas::no_selector, crate::proofs::ListLemmas::no_comma))]
-pub(crate) fn list(alloc: Global, text: &str, tokens: &[CssToken]) -> Result<Seq<Seq<Compound>>, SelectorFault>
+pub(crate) fn list(
+    alloc: Global,
+    text: &str,
+    tokens: &[CssToken],
+) -> Result<Seq<Seq<Compound>>, SelectorFault>
     requires { AreInside text.now tokens.now }
     ensures { IsListRead text.now tokens.now result }
 {

@@ -8,5 +8,4 @@ pub fn one_list_or_fault()
     ensures one_fault { HasOneFault }
     ensures not_both { IsListOrFault }
     ensures well_made { IsWellMade }
-{
-}
+{}

@@ -14,6 +14,8 @@ mod pieces;
 mod places;
 mod refusals;
 mod simples;
+#[cfg(test)]
+mod tests;
 
 pub use laws::one_list_or_fault;
 pub use parsing::parse_selectors;

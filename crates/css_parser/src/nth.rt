@@ -110,7 +110,10 @@ fn is_odd(s: &[u8], at: usize) -> bool
     requires { at ≤ length s.now }
     ensures { result ≡ spec.is_odd s.now at }
 {
-    is_letter_at(s, at, b'o') && is_letter_at(s, at + 1, b'd') && is_letter_at(s, at + 2, b'd') && ends(s, at + 3)
+    is_letter_at(s, at, b'o')
+        && is_letter_at(s, at + 1, b'd')
+        && is_letter_at(s, at + 2, b'd')
+        && ends(s, at + 3)
 }
 
 fn is_even(s: &[u8], at: usize) -> bool

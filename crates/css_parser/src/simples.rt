@@ -24,7 +24,13 @@ fn is_negation(name: &str) -> bool
 }
 
 /// The argument and the `)` of a pseudo-class.
-fn class_with(alloc: Global, text: &str, tokens: &[CssToken], name: &str, at: usize) -> Result<Option<Read>, NoMemory>
+fn class_with(
+    alloc: Global,
+    text: &str,
+    tokens: &[CssToken],
+    name: &str,
+    at: usize,
+) -> Result<Option<Read>, NoMemory>
     requires inside { AreInside text.now tokens.now }
     requires within { at ≤ length tokens.now }
     ensures read { IfOk result (λ read. read ≡ spec.class_with text.now tokens.now name.now (nth_called name.now) at) }
@@ -37,16 +43,21 @@ fn class_with(alloc: Global, text: &str, tokens: &[CssToken], name: &str, at: us
         contains_argument(alloc, tokens, at)
     } else if name.eq_ignore_ascii_case("lang") {
         lang_argument(alloc, tokens, at)
-    } else if is_negation(name) {
-        Ok(None)
-    } else {
+    } else if !is_negation(name) {
         Ok(other_argument(tokens, Piece::Unknown, at))
+    } else {
+        Ok(None)
     }
 }
 
 /// The pseudo-class at a place where `:` stands, if it is one.
 #[tactic(auto, unfolding(crate::specs::Simples::pseudo_class))]
-fn pseudo_class(alloc: Global, text: &str, tokens: &[CssToken], at: usize) -> Result<Option<Read>, NoMemory>
+fn pseudo_class(
+    alloc: Global,
+    text: &str,
+    tokens: &[CssToken],
+    at: usize,
+) -> Result<Option<Read>, NoMemory>
     requires inside { AreInside text.now tokens.now }
     requires within { at < length tokens.now }
     ensures read { IfOk result (λ read. read ≡ spec.pseudo_class text.now tokens.now at) }
@@ -78,7 +89,13 @@ fn strange(read: Option<Read>) -> Option<Read>
 }
 
 /// The argument and the `)` of a pseudo-element.
-fn element_with(alloc: Global, text: &str, tokens: &[CssToken], name: &str, at: usize) -> Result<Option<Read>, NoMemory>
+fn element_with(
+    alloc: Global,
+    text: &str,
+    tokens: &[CssToken],
+    name: &str,
+    at: usize,
+) -> Result<Option<Read>, NoMemory>
     requires inside { AreInside text.now tokens.now }
     requires within { at ≤ length tokens.now }
     ensures read { IfOk result (λ read. read ≡ spec.element_with text.now tokens.now name.now (nth_called name.now) at) }
@@ -110,7 +127,12 @@ fn element_called(name: &str) -> Piece
 
 /// The pseudo-element at a place where `::` stands, if it is one.
 #[tactic(auto, unfolding(crate::specs::Simples::pseudo_element))]
-fn pseudo_element(alloc: Global, text: &str, tokens: &[CssToken], at: usize) -> Result<Option<Read>, NoMemory>
+fn pseudo_element(
+    alloc: Global,
+    text: &str,
+    tokens: &[CssToken],
+    at: usize,
+) -> Result<Option<Read>, NoMemory>
     requires inside { AreInside text.now tokens.now }
     requires within { at < length tokens.now }
     ensures read { IfOk result (λ read. read ≡ spec.pseudo_element text.now tokens.now at) }
@@ -160,7 +182,12 @@ fn class(alloc: Global, tokens: &[CssToken], at: usize) -> Result<Option<Read>, 
 
 /// The simple selector that is no negation, or the pseudo-element, at a place, if one stands there.
 #[tactic(auto, unfolding(crate::specs::Simples::piece_at))]
-fn piece_at(alloc: Global, text: &str, tokens: &[CssToken], at: usize) -> Result<Option<Read>, NoMemory>
+fn piece_at(
+    alloc: Global,
+    text: &str,
+    tokens: &[CssToken],
+    at: usize,
+) -> Result<Option<Read>, NoMemory>
     requires inside { AreInside text.now tokens.now }
     requires within { at ≤ length tokens.now }
     ensures read { IfOk result (λ read. read ≡ spec.piece_at text.now tokens.now at) }
@@ -204,7 +231,12 @@ fn element_piece(element: ElementRead) -> Read
 
 /// What a negation holds, at a place.
 #[tactic(auto, unfolding(crate::specs::Simples::inner))]
-fn inner(alloc: Global, text: &str, tokens: &[CssToken], at: usize) -> Result<Option<Read>, NoMemory>
+fn inner(
+    alloc: Global,
+    text: &str,
+    tokens: &[CssToken],
+    at: usize,
+) -> Result<Option<Read>, NoMemory>
     requires inside { AreInside text.now tokens.now }
     requires within { at ≤ length tokens.now }
     ensures read { IfOk result (λ read. read ≡ spec.inner text.now tokens.now at) }
@@ -218,7 +250,12 @@ fn inner(alloc: Global, text: &str, tokens: &[CssToken], at: usize) -> Result<Op
 
 /// The negation at a place where `:` and the Function `not` stand, if it is one.
 #[tactic(auto, unfolding(crate::specs::Simples::negation))]
-fn negation(alloc: Global, text: &str, tokens: &[CssToken], at: usize) -> Result<Option<FormRead>, NoMemory>
+fn negation(
+    alloc: Global,
+    text: &str,
+    tokens: &[CssToken],
+    at: usize,
+) -> Result<Option<FormRead>, NoMemory>
     requires inside { AreInside text.now tokens.now }
     requires within { at + 1 < length tokens.now }
     ensures read { IfOk result (λ read. read ≡ spec.negation text.now tokens.now at) }
@@ -268,7 +305,12 @@ fn begins_negation(tokens: &[CssToken], at: usize) -> bool
 
 /// The simple selector or the pseudo-element at a place, if one stands there.
 #[tactic(auto, unfolding(crate::specs::Simples::simple))]
-pub(crate) fn simple(alloc: Global, text: &str, tokens: &[CssToken], at: usize) -> Result<Option<FormRead>, NoMemory>
+pub(crate) fn simple(
+    alloc: Global,
+    text: &str,
+    tokens: &[CssToken],
+    at: usize,
+) -> Result<Option<FormRead>, NoMemory>
     requires inside { AreInside text.now tokens.now }
     requires within { at ≤ length tokens.now }
     ensures read { IfOk result (λ read. read ≡ spec.simple text.now tokens.now at) }

@@ -1,4 +1,4 @@
-use Rattle.std.proofs.Common.{◌≡◌, ◌+◌, ◌-◌, ◌≤◌, length}
+use Rattle.std.proofs.Common.{◌+◌, ◌-◌, ◌≤◌, length}
 use Rattle.css_parser.specs.Reading.{IsOpen}
 use Rattle.css_parser.proofs.arguments.balanced_close.Given as goal
 

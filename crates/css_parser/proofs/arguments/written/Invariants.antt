@@ -1,4 +1,4 @@
-use Rattle.std.proofs.Common.{◌≡◌, ◌-◌, ◌≤◌, length}
+use Rattle.std.proofs.Common.{◌≡◌, ◌-◌, ◌≤◌}
 use Rattle.css_parser.specs.Simples.{written_up_to}
 use Rattle.css_parser.proofs.arguments.written.Given as goal
 

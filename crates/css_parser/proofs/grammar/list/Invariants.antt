@@ -1,4 +1,4 @@
-use Rattle.std.proofs.Common.{◌≡◌, ◌-◌, ◌<◌, ◌≤◌, length}
+use Rattle.std.proofs.Common.{◌-◌, ◌≤◌, length}
 use Rattle.css_parser.specs.Reading.{IsReadUpTo}
 use Rattle.css_parser.proofs.grammar.list.Given as goal
 

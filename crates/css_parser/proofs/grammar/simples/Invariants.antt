@@ -1,4 +1,4 @@
-use Rattle.std.proofs.Common.{◌≡◌, ◌-◌, ◌≤◌, length}
+use Rattle.std.proofs.Common.{◌-◌, ◌≤◌, length}
 use Rattle.css_parser.specs.Grammar.{Simples}
 use Rattle.css_parser.proofs.grammar.simples.Given as goal
 

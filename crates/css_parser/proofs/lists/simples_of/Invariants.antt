@@ -1,7 +1,4 @@
-use Rattle.std.proofs.Common.{◌≡◌, ◌-◌, ◌≤◌, length, take, map, flat_map}
-use Rattle.std.specs.List.{fold}
-use Rattle.css_meaning.specs.declared.selector.Tail.{Tail}
-use Rattle.css_parser.specs.declared.pieces.Form.{Form}
+use Rattle.std.proofs.Common.{◌≡◌, ◌-◌, ◌≤◌, length, take, flat_map}
 use Rattle.css_parser.specs.Lists.{form_simples}
 use Rattle.css_parser.proofs.lists.simples_of.Given as goal
 

@@ -1,4 +1,4 @@
-use Rattle.std.proofs.Common.{◌≡◌, ◌-◌, ◌≤◌, length, take, map, flat_map}
+use Rattle.std.proofs.Common.{◌≡◌, ◌-◌, ◌≤◌, length, take}
 use Rattle.std.specs.List.{fold}
 use Rattle.css_meaning.specs.declared.selector.Tail.{Tail}
 use Rattle.css_parser.specs.declared.pieces.Form.{Form}

@@ -1,7 +1,4 @@
-use Rattle.std.proofs.Common.{◌≡◌, ◌-◌, ◌≤◌, length, take, map, flat_map}
-use Rattle.std.specs.List.{fold}
-use Rattle.css_meaning.specs.declared.selector.Tail.{Tail}
-use Rattle.css_parser.specs.declared.pieces.Form.{Form}
+use Rattle.std.proofs.Common.{◌≡◌, ◌-◌, ◌≤◌, length, take}
 use Rattle.css_parser.specs.Lists.{tail_of}
 use Rattle.css_parser.proofs.lists.tail_of.Given as goal
 

@@ -1,4 +1,4 @@
-use Rattle.std.proofs.Common.{◌≡◌, ℕ, ◌-◌, ◌≤◌, ◌<◌, true, length, get_or}
+use Rattle.std.proofs.Common.{◌≡◌, ◌-◌, ◌≤◌, length}
 use Rattle.css_parser.specs.Nth.{is_blank}
 use Rattle.text_base.specs.Text.{run_end}
 use Rattle.css_parser.proofs.nth.past_blanks.Given as goal
