@@ -1,5 +1,7 @@
 pub mod ArgumentLemmas
 pub mod CopyLemmas
+pub mod Endings
+pub mod Existence
 pub mod Fitting
 pub mod GrammarLemmas
 pub mod ListLemmas

@@ -20,7 +20,7 @@ use Rattle.css_parser.specs.Reading.{IsListRead}
 use Rattle.css_parser.proofs.ListLemmas.{reads_same}
 
 -- what may be refused
-abbrev IsRefusal : SelectorFault → Type 0
+abbrev pub IsRefusal : SelectorFault → Type 0
 IsRefusal fault.Prefix = Unit {0}
 IsRefusal fault.UnknownPseudo = Unit {0}
 IsRefusal fault.OfType = Unit {0}
@@ -28,7 +28,7 @@ IsRefusal fault.Number = Unit {0}
 IsRefusal fault.PseudoElement = Unit {0}
 IsRefusal _ = ⊥
 
-abbrev MayRefuse : Option SelectorFault → Type 0
+abbrev pub MayRefuse : Option SelectorFault → Type 0
 MayRefuse None = Unit {0}
 MayRefuse (Some f) = IsRefusal f
 
@@ -59,7 +59,7 @@ selector_kind : (cs : List Compound) → MayRefuse (selector_refusal cs)
 selector_kind [] = tt
 selector_kind (c ∷ cs) = either (compound_refusal (is_empty cs) c) (selector_refusal cs) (compound_kind (is_empty cs) c) (selector_kind cs)
 
-list_kind : (ss : List (List Compound)) → MayRefuse (refusal ss)
+pub list_kind : (ss : List (List Compound)) → MayRefuse (refusal ss)
 list_kind [] = tt
 list_kind (s ∷ ss) = either (selector_refusal s) (refusal ss) (selector_kind s) (list_kind ss)
 
