@@ -91,6 +91,7 @@ name_rule text i h = by_tests (is_space5 b) (starts_ident text i) (b == 35) (b =
   where
     b : ℕ
     b = get_or text i 0
+
     by_tests : (a s h d q n : Bool) → cond a rule.Space (cond s rule.Name (cond h rule.Hash (cond d rule.Double (cond q rule.Single (cond n rule.Digits rule.Symbol))))) ≡ rule.Name → s ≡ true
     by_tests true s h d q n e = cc
     by_tests false true h d q n e = refl
@@ -105,6 +106,7 @@ space_rule text i h = by_tests (is_space5 b) (starts_ident text i) (b == 35) (b 
   where
     b : ℕ
     b = get_or text i 0
+
     by_tests : (a s h d q n : Bool) → cond a rule.Space (cond s rule.Name (cond h rule.Hash (cond d rule.Double (cond q rule.Single (cond n rule.Digits rule.Symbol))))) ≡ rule.Space → a ≡ true
     by_tests true s h d q n e = refl
     by_tests false true h d q n e = cc
@@ -119,6 +121,7 @@ digit_rule text i h = by_tests (is_space5 b) (starts_ident text i) (b == 35) (b 
   where
     b : ℕ
     b = get_or text i 0
+
     by_tests : (a s h d q n : Bool) → cond a rule.Space (cond s rule.Name (cond h rule.Hash (cond d rule.Double (cond q rule.Single (cond n rule.Digits rule.Symbol))))) ≡ rule.Digits → n ≡ true
     by_tests true s h d q n e = cc
     by_tests false true h d q n e = cc
@@ -159,6 +162,7 @@ token_some text i inside = by_rule (rule_at text i) refl
   where
     begun : (r : Rule) → rule_at text i ≡ r → (read : Option CssToken) → ReadsBy r text i read → Moves text i read → Begun text i
     begun r e read is moves = record { read = read; is = subst (λ x. ReadsBy x text i read) (sym e) is; moves = moves }
+
     by_rule : (r : Rule) → rule_at text i ≡ r → Begun text i
     by_rule rule.Space e = begun rule.Space e _ refl (run_end_moves is_space5 text i _ refl inside (space_rule text i e), run_end_le is_space5 text i (omega arith))
     by_rule rule.Digits e = begun rule.Digits e _ refl (run_end_moves is_digit text i _ refl inside (digit_rule text i e), run_end_le is_digit text i (omega arith))
@@ -206,8 +210,10 @@ tokens_from text (suc more) i low near = by_end (λ k fits far. tokens_from text
   where
     w : Walk (comment_len text) i (length text)
     w = comments_from text i low
+
     comments : Comments text i w.end
     comments = (w.places, w.steps)
+
     joined : (t : CssToken) → TokenAt text w.end (Some t) → Reach text t.to ⊎ Stuck text t.to → Reach text i ⊎ Stuck text i
     joined t is (inl r) =
         let from : t.from ≡ w.end = token_from text w.end t is in
@@ -215,9 +221,11 @@ tokens_from text (suc more) i low near = by_end (λ k fits far. tokens_from text
     joined t is (inr r) =
         let from : t.from ≡ w.end = token_from text w.end t is in
         inr (record { before = t ∷ r.before; place = r.place; spelled = (subst (Comments text i) (sym from) comments, subst (λ n. TokenAt text n (Some t)) (sym from) is, r.spelled); inside = r.inside; none = r.none })
+
     by_read : Goes text more → w.end < length text → (read : Option CssToken) → TokenAt text w.end read → Moves text w.end read → Reach text i ⊎ Stuck text i
     by_read go inside None is moves = inr (record { before = []; place = w.end; spelled = comments; inside = inside; none = is })
     by_read go inside (Some t) is moves = let order = w.order in joined t is (go t.to moves.1 (omega (arith, moves.0)))
+
     by_end : Goes text more → (w.end < length text) ⊎ (length text ≤ w.end) → Reach text i ⊎ Stuck text i
     by_end go (inl inside) = let b = token_some text w.end inside in by_read go inside b.read b.is b.moves
     by_end go (inr far) = reach_end text i w far

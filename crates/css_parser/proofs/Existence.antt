@@ -80,6 +80,7 @@ module _ (text : List ℕ) (ts : List CssToken) where
       by_forms : (r : FormsRead) → element ts i ≡ None → IsFormsRead text ts i r → (xs : List Form) → r.forms ≡ xs → CompoundAt text ts l i
       by_forms r e h [] none = (None, nothing text ts i r e none h)
       by_forms r e h (x ∷ xs) some = (Some (record { compound = record { link = l; element = None; prefixed = false; forms = r.forms }; end = r.end }), without_element text ts i l r e (λ z. let both : x ∷ xs ≡ [] = sym some ∙ z in cc) h)
+
       by_element : (o : Option ElementRead) → element ts i ≡ o → EndsElement ts i o → CompoundAt text ts l i
       by_element None e h = let f : FormsAt text ts i = forms_at i low in by_forms f.0 e f.1 f.0.forms refl
       by_element (Some x) e h =
@@ -92,6 +93,7 @@ module _ (text : List ℕ) (ts : List CssToken) where
       by_compound : (l : LinkRead) → combinator ts i ≡ Some l → i < l.end → (o : Option CompoundRead) → IsCompoundRead text ts l.link l.end o → FurtherAt text ts i
       by_compound l e moves None h = (None, no_after text ts i l e h)
       by_compound l e moves (Some r) h = (Some r, after_combinator text ts i l r e moves h)
+
       by_link : (o : Option LinkRead) → combinator ts i ≡ o → EndsLink ts i o → FurtherAt text ts i
       by_link None e h = (None, no_combinator text ts i e)
       by_link (Some l) e h = let c : CompoundAt text ts l.link l.end = compound_at l.link l.end h.within in by_compound l e h.moves c.0 c.1
@@ -131,11 +133,13 @@ module _ (text : List ℕ) (ts : List CssToken) where
       where
         behind : length ts ≤ skip ts r.end → skip ts r.end ≡ length ts
         behind far = let within = skip_within ts r.end h.within in omega arith
+
         by_comma : skip ts r.end < length ts → (b : Bool) → stands kind.Comma ts (skip ts r.end) ≡ b → IsReadOrNot text ts
         by_comma inside true e =
             let order = h.order in
             go (done ++ r.compounds ∷ []) (skip ts (skip ts r.end + 1)) (omega (arith, skip_order ts r.end, skip_order ts (skip ts r.end + 1))) (skip_within ts (skip ts r.end + 1) (omega arith)) (went_on text ts done i r p h inside e)
         by_comma inside false e = inr (no_comma text ts done i r p h inside e)
+
         by_end : (skip ts r.end < length ts) ⊎ (length ts ≤ skip ts r.end) → IsReadOrNot text ts
         by_end (inl inside) = by_comma inside (stands kind.Comma ts (skip ts r.end)) refl
         by_end (inr far) = inl (done ++ r.compounds ∷ [], finished text ts done i r p h (behind far))
