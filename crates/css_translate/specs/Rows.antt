@@ -8,7 +8,7 @@ use Rattle.css_meaning.specs.declared.selector.Test.{Test}
 abbrev pub one_simple : Option (List ℕ) → Bool → Test → SelectorList
 one_simple element negated test = record {
   items = record {
-      parts = record { link = link.First; element = element; simples = record { negated = negated; test = test } ∷ [] } ∷ [];
-      tail = tail.Element;
-    } ∷ [];
+    parts = record { link = link.First; element = element; simples = record { negated = negated; test = test } ∷ [] } ∷ [];
+    tail = tail.Element;
+  } ∷ [];
 }

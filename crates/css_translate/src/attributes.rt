@@ -118,12 +118,7 @@ fn dashed(alloc: Global, value: &Txt) -> Result<String, NoMemory>
 }
 
 /// `[@a and (@a = 'v' or starts-with(@a, 'v-'))]`
-fn push_either(
-    out: &mut String,
-    attribute: &str,
-    value: &Txt,
-    start: &str,
-) -> Result<(), NoMemory>
+fn push_either(out: &mut String, attribute: &str, value: &Txt, start: &str) -> Result<(), NoMemory>
     ensures { OnOk result (string_bytes out.new ≡ string_bytes out.old ++ (codes "[" ++ (attribute.now ++ (codes " and (" ++ (attribute.now ++ (codes " = " ++ (literal_text (encode_utf8_all value.now) ++ (codes " or starts-with(" ++ (attribute.now ++ (codes ", " ++ (literal_text start.now ++ codes "))]"))))))))))) }
 {
     push(out, "[")?;
@@ -140,12 +135,7 @@ fn push_either(
 }
 
 /// `[@a and (@a = 'v' or starts-with(@a, 'v-'))]`
-fn push_dash(
-    alloc: Global,
-    out: &mut String,
-    attribute: &str,
-    value: &Txt,
-) -> Result<(), NoMemory>
+fn push_dash(alloc: Global, out: &mut String, attribute: &str, value: &Txt) -> Result<(), NoMemory>
     ensures { OnOk result (string_bytes out.new ≡ string_bytes out.old ++ dash_text attribute.now value.now) }
 {
     let start = dashed(alloc, value)?;

@@ -44,12 +44,18 @@ fn push_html(out: &mut String, dialect: Dialect, text: &str) -> Result<(), NoMem
     }
 }
 
+/// `[@href and (self::a or ..)]`
 fn push_link(out: &mut String, dialect: Dialect, element: &Option<Txt>) -> Result<(), NoMemory>
     ensures { OnOk result (string_bytes out.new ≡ string_bytes out.old ++ pseudo_text dialect element.now pseudo.Link) }
 {
-    push_html(out, dialect, "[@href and (self::a or self::area or self::link)]")
+    push_html(
+        out,
+        dialect,
+        "[@href and (self::a or self::area or self::link)]",
+    )
 }
 
+/// `[(@selected and self::option) or (@checked and self::input and (..))]`
 fn push_checked(out: &mut String, dialect: Dialect, element: &Option<Txt>) -> Result<(), NoMemory>
     ensures { OnOk result (string_bytes out.new ≡ string_bytes out.old ++ pseudo_text dialect element.now pseudo.Checked) }
 {
@@ -60,6 +66,7 @@ fn push_checked(out: &mut String, dialect: Dialect, element: &Option<Txt>) -> Re
     )
 }
 
+/// `[not(@disabled) and (self::button or ..)]`
 fn push_enabled(out: &mut String, dialect: Dialect, element: &Option<Txt>) -> Result<(), NoMemory>
     ensures { OnOk result (string_bytes out.new ≡ string_bytes out.old ++ pseudo_text dialect element.now pseudo.Enabled) }
 {
@@ -70,6 +77,7 @@ fn push_enabled(out: &mut String, dialect: Dialect, element: &Option<Txt>) -> Re
     )
 }
 
+/// `[@disabled and (self::button or ..)]`
 fn push_disabled(out: &mut String, dialect: Dialect, element: &Option<Txt>) -> Result<(), NoMemory>
     ensures { OnOk result (string_bytes out.new ≡ string_bytes out.old ++ pseudo_text dialect element.now pseudo.Disabled) }
 {
