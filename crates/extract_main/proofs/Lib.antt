@@ -1,13 +1,5 @@
-pub mod Both
 pub mod Complete
 pub mod Forms
-pub mod GrammarLemmas
 pub mod LineLemmas
-pub mod MadeLemmas
-pub mod OneCss
-pub mod PlainLemmas
 pub mod Plans
 pub mod Readings
-pub mod SelectingLemmas
-pub mod Spellings
-pub mod TokenLemmas

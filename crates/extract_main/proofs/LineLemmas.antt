@@ -5,8 +5,12 @@ use Rattle.serde_json.specs.Data.{Data}
 use Rattle.serde_json.specs.View.{items_of}
 use Rattle.serde_json.specs.Written.{has_float, items_have_float, items_text, compact_text}
 use Rattle.css_meaning.specs.declared.selector.Selector.{Selector}
+use Rattle.std.specs.List.{AllByRecursion}
+use Rattle.std.proofs.lemmas.List.Elements.{All-weaker, recursion_from_All}
+use Rattle.css_meaning.specs.declared.selector.SelectorList.{SelectorList}
 use Rattle.css_meaning.specs.Specificity.{triple_of}
-use Rattle.extract_main.specs.Lines.{css_data, css_text, reason_data, reason_text, triple_data, triple_text, triples_text}
+use Rattle.css_meaning.specs.WellMade.{WellMade, IsSelector}
+use Rattle.extract_main.specs.Lines.{IsSmall, css_data, css_text, reason_data, reason_text, triple_data, triple_text, triples_text}
 
 triples_no_float : (ss : List Selector) → items_have_float (items_of (map (λ s. triple_data (triple_of s)) ss)) ≡ false
 triples_no_float [] = refl
@@ -62,3 +66,7 @@ css_line_text ss xpath d bytes same text = css_value_text ss xpath d bytes same 
 pub reason_line_text : (reason : List ℕ) (d : Data) (bytes : List ℕ) → d ≡ reason_data reason
     → (has_float d ≡ false → bytes ≡ compact_text d) → bytes ≡ reason_text reason
 reason_line_text reason d bytes same text = text (ap has_float same) ∙ ap compact_text same ∙ reason_compact reason
+
+-- the triples of a well-made list fit 32 bits
+pub all_small : (list : SelectorList) → WellMade list → AllByRecursion IsSmall list.items
+all_small list h = recursion_from_All IsSmall list.items (All-weaker IsSelector IsSmall (λ s is. is.size) list.items h.each)

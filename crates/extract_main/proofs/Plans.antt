@@ -8,15 +8,15 @@ use Rattle.text_base.specs.declared.reasons.SelectorFault.TheVariants as fault
 use Rattle.text_base.specs.Reasons.{selector_word}
 use Rattle.css_meaning.specs.declared.selector.Dialect.{Dialect}
 use Rattle.css_meaning.specs.declared.selector.SelectorList.{SelectorList}
+use Rattle.css_parser.specs.Selecting.{Accepts}
 use Rattle.css_translate.specs.Printed.{printed}
-use Rattle.css_translate.specs.Promise.{KeepsMeaning}
 use Rattle.extract_main.specs.declared.answers.Line.{Line}
 use Rattle.extract_main.specs.Answers.{Answer, answer_of}
 use Rattle.extract_main.specs.Lines.{css_text, reason_text}
-use Rattle.extract_main.specs.Selecting.{Accepts}
 use Rattle.extract_main.specs.Words.{Command, css}
-use Rattle.extract_main.specs.Output.{Plan, alone, over, IsPlan, IsCssLine, IsListLine, IsRefusalLine, IsRefusedFor, most_xpath}
-use Rattle.extract_main.proofs.Readings.{one_list, one_or_other, one_reason, some_reading, within_or_past}
+use Rattle.extract_main.specs.Output.{IsKept, Plan, alone, over, IsPlan, IsCssLine, IsListLine, IsRefusalLine, IsRefusedFor, most_xpath}
+use Rattle.css_parser.proofs.SelectingLemmas.{one_reading as one_list}
+use Rattle.extract_main.proofs.Readings.{one_or_other, one_reason, some_reading, within_or_past}
 
 list_and_refusal : (d : Dialect) (text : List ℕ) (a b : Answer) → IsListLine d text a → IsRefusalLine d text b → ⊥
 list_and_refusal d text a b h g = too_long g.why (one_or_other d text h.list h.accepted g.why g.cause) g.cause
@@ -67,17 +67,17 @@ of_plan d text made P line each (over page names) h = absurd h
 
 -- the XPath of a line that holds no refusal keeps its meaning
 pub done_keeps : (d : Dialect) (text : List ℕ) (made : Result Line NoMemory)
-    → IfOk made (λ l. l.refused ≡ false → (list : SelectorList) → Accepts text list → KeepsMeaning d list (printed d list))
-    → IsOkAnd made (λ l. l.refused ≡ false) → (list : SelectorList) → Accepts text list → KeepsMeaning d list (printed d list)
+    → IfOk made (λ l. l.refused ≡ false → (list : SelectorList) → Accepts text list → IsKept d list)
+    → IsOkAnd made (λ l. l.refused ≡ false) → (list : SelectorList) → Accepts text list → IsKept d list
 done_keeps d text (Ok l) keeps done list h = keeps done list h
 done_keeps d text (Err e) keeps done list h = absurd done
 
 -- what is said of the words' selector is said of any selector that they give
 pub of_command : (d e : Dialect) (text other : List ℕ) (said : Option Command) → Some (css d text) ≡ said → said ≡ Some (css e other)
-    → {Ends : Type 0} → ((list : SelectorList) → Accepts text list → Ends → KeepsMeaning d list (printed d list))
-    → (list : SelectorList) → Accepts other list → Ends → KeepsMeaning e list (printed e list)
+    → {Ends : Type 0} → ((list : SelectorList) → Accepts text list → Ends → IsKept d list)
+    → (list : SelectorList) → Accepts other list → Ends → IsKept e list
 of_command d e text other said same says {Ends = Ends} keeps =
     let one : d ≡ e = (let x = same in let y = says in cc) in
     let two : text ≡ other = (let x = same in let y = says in cc) in
-    let P : Dialect → List ℕ → Type 0 = λ x t. (list : SelectorList) → Accepts t list → Ends → KeepsMeaning x list (printed x list) in
+    let P : Dialect → List ℕ → Type 0 = λ x t. (list : SelectorList) → Accepts t list → Ends → IsKept x list in
     subst (λ (x : Dialect). P x other) one (subst (λ (t : List ℕ). P d t) two keeps)

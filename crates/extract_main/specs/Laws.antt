@@ -3,7 +3,7 @@ use Rattle.std.specs.Prelude.{◌≡◌, ℕ, List, ◌⊎◌, ◌↔◌, Some}
 use Rattle.text_base.specs.declared.reasons.SelectorFault.{SelectorFault}
 use Rattle.css_meaning.specs.declared.selector.Dialect.{Dialect}
 use Rattle.css_meaning.specs.declared.selector.SelectorList.{SelectorList}
-use Rattle.extract_main.specs.Selecting.{Accepts}
+use Rattle.css_parser.specs.Selecting.{Accepts}
 use Rattle.extract_main.specs.Words.{Command, words_of, read}
 use Rattle.extract_main.specs.Output.{Plan, IsPlan, IsRefusedFor}
 

@@ -1,11 +1,7 @@
 pub mod Answers
-pub mod CssTokens
 pub mod Ending
-pub mod Grammar
 pub mod Laws
 pub mod Lines
-pub mod Machine
 pub mod Numbers
 pub mod Output
-pub mod Selecting
 pub mod Words

@@ -6,11 +6,12 @@ use Rattle.text_base.specs.declared.reasons.SelectorFault.TheVariants as fault
 use Rattle.text_base.specs.Reasons.{selector_word}
 use Rattle.css_meaning.specs.declared.selector.Dialect.{Dialect}
 use Rattle.css_meaning.specs.declared.selector.SelectorList.{SelectorList}
+use Rattle.css_parser.specs.Selecting.{Accepts, IsFault}
 use Rattle.css_translate.specs.Printed.{printed}
+use Rattle.css_translate.specs.Promise.{KeepsMeaning}
 use Rattle.io_edges.specs.Counts.{Rose, Grows}
 use Rattle.io_edges.specs.Pages.{page, Lacks}
 use Rattle.io_edges.specs.Sink.{grown}
-use Rattle.extract_main.specs.Selecting.{Accepts, IsLong, IsUnbuilt, IsWrong}
 use Rattle.extract_main.specs.Lines.{css_text, reason_text}
 use Rattle.extract_main.specs.Answers.{Answer, bytes_of, refuses}
 use Rattle.extract_main.specs.Words.{Command, css}
@@ -20,6 +21,10 @@ use Rattle.extract_main.specs.declared.top.Status.TheVariants.{Done, Refused, Me
 -- the most bytes of a printed XPath
 abbrev pub most_xpath : ℕ
 most_xpath = 1048576
+
+-- the printed text of a list keeps the list's meaning
+abbrev pub IsKept : Dialect → SelectorList → Type 0
+IsKept d list = KeepsMeaning d list (printed d list)
 
 -- The text is an accepted list whose XPath is short enough: the line has its triples and its printed text.
 pub record IsListLine (d : Dialect) (text : List ℕ) (a : Answer) : Type 0 where
@@ -34,19 +39,10 @@ pub record IsXPathLong (d : Dialect) (text : List ℕ) : Type 0 where
   pub accepted : Accepts text list
   pub long : most_xpath < length (printed d list)
 
--- why a selector is refused
+-- why a selector is refused: it is no list, or the XPath of its list is too long
 abbrev pub IsRefusedFor : Dialect → List ℕ → SelectorFault → Type 0
-IsRefusedFor d text fault.Long = IsLong text
-IsRefusedFor d text fault.Text = ⊥
-IsRefusedFor d text fault.Syntax = IsWrong text
-IsRefusedFor d text fault.Prefix = ⊥
-IsRefusedFor d text fault.UnknownPseudo = ⊥
-IsRefusedFor d text fault.PseudoElement = ⊥
-IsRefusedFor d text fault.OfType = ⊥
-IsRefusedFor d text fault.Number = ⊥
 IsRefusedFor d text fault.XPathLong = IsXPathLong d text
-IsRefusedFor d text fault.Unbuilt = IsUnbuilt text
-IsRefusedFor d text fault.Memory = ⊥
+IsRefusedFor d text why = IsFault text why
 
 -- the text is refused: the line has the reason
 pub record IsRefusalLine (d : Dialect) (text : List ℕ) (a : Answer) : Type 0 where

@@ -2,16 +2,14 @@
 ghost use Rattle.std.specs.Prelude.{◌≡◌, ◌++◌, IfOk, string_bytes, codes, false, true};
 ghost use Rattle.text_base.specs.Reasons.{selector_word};
 ghost use Rattle.css_meaning.specs.declared.selector.SelectorList.{SelectorList};
-ghost use Rattle.css_translate.specs.Printed.{printed};
-ghost use Rattle.css_translate.specs.Promise.{KeepsMeaning};
 ghost use Rattle.extract_main.specs.Lines.{reason_text};
-ghost use Rattle.extract_main.specs.Selecting.{Accepts};
+ghost use Rattle.css_parser.specs.Selecting.{Accepts};
 ghost use Rattle.extract_main.specs.Answers.{answer_of};
-ghost use Rattle.extract_main.specs.Output.{IsCssLine};
+ghost use Rattle.extract_main.specs.Output.{IsCssLine, IsKept};
 
-use crate::css_parser::parse_selectors;
 use crate::json_lines::{css_line, reason_line};
 use css_meaning::Dialect;
+use css_parser::parse_selectors;
 use css_translate::translate;
 use std::alloc::Global;
 use text_base::{NoMemory, SelectorFault};
@@ -51,7 +49,7 @@ fn refusal(alloc: Global, fault: SelectorFault) -> Result<Line, NoMemory>
 /// The line of a selector list: its specificity and its XPath, or why it is refused.
 pub fn css_answer(alloc: Global, dialect: Dialect, text: &str) -> Result<Line, NoMemory>
     ensures line { IfOk result (λ line. IsCssLine dialect text.now (answer_of line)) }
-    ensures meaning { IfOk result (λ line. line.refused ≡ false → (list : SelectorList) → Accepts text.now list → KeepsMeaning dialect list (printed dialect list)) }
+    ensures meaning { IfOk result (λ line. line.refused ≡ false → (list : SelectorList) → Accepts text.now list → IsKept dialect list) }
 {
     match parse_selectors(alloc, text) {
         Ok(list) => match translate(alloc, dialect, &list) {

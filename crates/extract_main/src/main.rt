@@ -2,8 +2,6 @@
 #![tactic(auto)]
 
 mod answers;
-mod css_lexer;
-mod css_parser;
 mod json_lines;
 mod laws;
 mod top;

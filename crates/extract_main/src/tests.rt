@@ -41,18 +41,6 @@ fn rows(rt: HostRuntime) -> Result<(), Fail> {
     for (dialect, selector, status, line) in [
         (
             "html",
-            "ul > li a",
-            Status::Done,
-            "{\"specificity\":[[0,0,3]],\"xpath\":\"descendant-or-self::ul/li/descendant::a\"}\n",
-        ),
-        (
-            "generic",
-            "UL",
-            Status::Done,
-            "{\"specificity\":[[0,0,1]],\"xpath\":\"descendant-or-self::UL\"}\n",
-        ),
-        (
-            "html",
             "a",
             Status::Done,
             "{\"specificity\":[[0,0,1]],\"xpath\":\"descendant-or-self::a\"}\n",
@@ -65,15 +53,147 @@ fn rows(rt: HostRuntime) -> Result<(), Fail> {
         ),
         (
             "html",
-            "a >",
+            "ul > li a",
+            Status::Done,
+            "{\"specificity\":[[0,0,3]],\"xpath\":\"descendant-or-self::ul/li/descendant::a\"}\n",
+        ),
+        (
+            "html",
+            "div.content",
+            Status::Done,
+            "{\"specificity\":[[0,1,1]],\"xpath\":\"descendant-or-self::div[@class and contains(concat(' ', normalize-space(@class), ' '), ' content ')]\"}\n",
+        ),
+        (
+            "html",
+            "a[title=\"it's \\22 x\\22\"]",
+            Status::Done,
+            "{\"specificity\":[[0,1,1]],\"xpath\":\"descendant-or-self::a[@title = concat('it', \\\"'\\\", 's \\\"x\\\"')]\"}\n",
+        ),
+        (
+            "html",
+            "tr:nth-child(odd)",
+            Status::Done,
+            "{\"specificity\":[[0,1,1]],\"xpath\":\"descendant-or-self::tr[count(preceding-sibling::*) mod 2 = 0]\"}\n",
+        ),
+        (
+            "html",
+            "li:nth-child(-n+3)",
+            Status::Done,
+            "{\"specificity\":[[0,1,1]],\"xpath\":\"descendant-or-self::li[count(preceding-sibling::*) <= 2]\"}\n",
+        ),
+        (
+            "html",
+            "li:nth-child(0n+0)",
+            Status::Done,
+            "{\"specificity\":[[0,1,1]],\"xpath\":\"descendant-or-self::li[0]\"}\n",
+        ),
+        (
+            "html",
+            "li:nth-child(3n-4)",
+            Status::Done,
+            "{\"specificity\":[[0,1,1]],\"xpath\":\"descendant-or-self::li[count(preceding-sibling::*) mod 3 = 1]\"}\n",
+        ),
+        (
+            "html",
+            "*:first-of-type",
+            Status::Refused,
+            "{\"refused\":\"css.OfType\"}\n",
+        ),
+        (
+            "html",
+            "li:not(:last-of-type)",
+            Status::Done,
+            "{\"specificity\":[[0,1,1]],\"xpath\":\"descendant-or-self::li[not(self::*[count(following-sibling::li) = 0])]\"}\n",
+        ),
+        (
+            "html",
+            "h1 + p, ul > li",
+            Status::Done,
+            "{\"specificity\":[[0,0,2],[0,0,2]],\"xpath\":\"descendant-or-self::h1/following-sibling::*[1][self::p] | descendant-or-self::ul/li\"}\n",
+        ),
+        (
+            "html",
+            "a[href^=\"\"]",
+            Status::Done,
+            "{\"specificity\":[[0,1,1]],\"xpath\":\"descendant-or-self::a[0]\"}\n",
+        ),
+        (
+            "html",
+            ".a\\ b",
+            Status::Done,
+            "{\"specificity\":[[0,1,0]],\"xpath\":\"descendant-or-self::*[0]\"}\n",
+        ),
+        (
+            "html",
+            "a:hover",
+            Status::Done,
+            "{\"specificity\":[[0,1,1]],\"xpath\":\"descendant-or-self::a[0]\"}\n",
+        ),
+        (
+            "html",
+            "[xlink\\:href]",
+            Status::Done,
+            "{\"specificity\":[[0,1,0]],\"xpath\":\"descendant-or-self::*[attribute::*[name() = 'xlink:href']]\"}\n",
+        ),
+        (
+            "generic",
+            ":lang(EN)",
+            Status::Done,
+            "{\"specificity\":[[0,1,0]],\"xpath\":\"descendant-or-self::*[lang('EN')]\"}\n",
+        ),
+        (
+            "html",
+            ":lang(EN)",
+            Status::Done,
+            "{\"specificity\":[[0,1,0]],\"xpath\":\"descendant-or-self::*[ancestor-or-self::*[@lang][1][starts-with(concat(translate(@lang, 'ABCDEFGHIJKLMNOPQRSTUVWXYZ', 'abcdefghijklmnopqrstuvwxyz'), '-'), 'en-')]]\"}\n",
+        ),
+        (
+            "html",
+            "a,",
             Status::Refused,
             "{\"refused\":\"css.Syntax\"}\n",
         ),
         (
             "html",
-            "a.b",
+            "",
             Status::Refused,
-            "{\"refused\":\"css.Unbuilt\"}\n",
+            "{\"refused\":\"css.Syntax\"}\n",
+        ),
+        (
+            "html",
+            "a & b",
+            Status::Refused,
+            "{\"refused\":\"css.Text\"}\n",
+        ),
+        (
+            "html",
+            "[foo|bar]",
+            Status::Refused,
+            "{\"refused\":\"css.Prefix\"}\n",
+        ),
+        (
+            "html",
+            "a:frob",
+            Status::Refused,
+            "{\"refused\":\"css.UnknownPseudo\"}\n",
+        ),
+        (
+            "html",
+            "a::before",
+            Status::Refused,
+            "{\"refused\":\"css.PseudoElement\"}\n",
+        ),
+        (
+            "html",
+            "a::text b",
+            Status::Refused,
+            "{\"refused\":\"css.PseudoElement\"}\n",
+        ),
+        (
+            "html",
+            "li:nth-child(1000001)",
+            Status::Refused,
+            "{\"refused\":\"css.Number\"}\n",
         ),
     ] {
         let words = words(alloc, ["css", dialect, selector].as_slice())?;
@@ -86,28 +206,52 @@ fn rows(rt: HostRuntime) -> Result<(), Fail> {
     Ok(())
 }
 
-/// The words for a selector of so many child links.
-fn long_words(alloc: Global, links: u32) -> Result<Vec<String>, NoMemory> {
-    let mut selector = String::from_str(alloc, "a")?;
-    for _ in 0..links {
-        selector.push_str(">a")?;
+/// The words for the selector that is so many times the letter and then the rest.
+fn long_words(alloc: Global, letters: usize, rest: &str) -> Result<Vec<String>, NoMemory> {
+    let mut selector = String::new(alloc);
+    for _ in 0..letters {
+        selector.push_str("a")?;
     }
+    selector.push_str(rest)?;
     words(alloc, ["css", "html", selector.as_str()].as_slice())
+}
+
+/// An id and 127 times a class of position.
+fn positions(alloc: Global, id: &str) -> Result<String, NoMemory> {
+    let mut rest = String::from_str(alloc, id)?;
+    for _ in 0..127 {
+        rest.push_str(":first-of-type")?;
+    }
+    Ok(rest)
 }
 
 #[test]
 fn longest(rt: HostRuntime) -> Result<(), Fail> {
     let alloc = rt.alloc();
-    let (status, bytes) = run(alloc, long_words(alloc, 524_277)?.as_slice(), 9_999, 0)?;
+    let rest = positions(alloc, "#bb")?;
+    let words = long_words(alloc, 8_160, rest.as_str())?;
+    let (status, bytes) = run(alloc, words.as_slice(), 9_999, 0)?;
     assert_eq!(rt; status, Status::Done);
-    // The XPath has 1,048,575 bytes, and 42 stand around it.
-    assert_eq!(rt; bytes.len(), 1_048_617);
-    let (status, bytes) = run(alloc, long_words(alloc, 524_278)?.as_slice(), 9_999, 0)?;
+    // The XPath has 1,048,576 bytes, and 39 stand around it.
+    assert_eq!(rt; bytes.len(), 1_048_615);
+    Ok(())
+}
+
+#[test]
+fn too_long(rt: HostRuntime) -> Result<(), Fail> {
+    let alloc = rt.alloc();
+    let rest = positions(alloc, "#bbb")?;
+    let words = long_words(alloc, 8_160, rest.as_str())?;
+    let (status, bytes) = run(alloc, words.as_slice(), 9_999, 0)?;
     assert_eq!(rt; status, Status::Refused);
     assert_eq!(rt;
         bytes.as_slice(),
         "{\"refused\":\"css.XPathLong\"}\n".as_bytes()
     );
+    let words = long_words(alloc, 16_385, "")?;
+    let (status, bytes) = run(alloc, words.as_slice(), 9_999, 0)?;
+    assert_eq!(rt; status, Status::Refused);
+    assert_eq!(rt; bytes.as_slice(), "{\"refused\":\"css.Long\"}\n".as_bytes());
     Ok(())
 }
 

@@ -3,12 +3,10 @@ ghost use Rattle.std.specs.Prelude.{◌≡◌, ◌≢◌, ◌⊎◌, ◌↔◌, 
 ghost use Rattle.io_edges.specs.Counts.{Rose, Grows};
 ghost use Rattle.io_edges.specs.Sink.{grown, TakesPart};
 ghost use Rattle.css_meaning.specs.declared.selector.SelectorList.{SelectorList};
-ghost use Rattle.css_translate.specs.Printed.{printed};
-ghost use Rattle.css_translate.specs.Promise.{KeepsMeaning};
-ghost use Rattle.extract_main.specs.Selecting.{Accepts};
+ghost use Rattle.css_parser.specs.Selecting.{Accepts};
 ghost use Rattle.extract_main.specs.Answers.{Answer, answer_of, line_bytes, bytes_of};
 ghost use Rattle.extract_main.specs.Words.{Command, css, read, command_of};
-ghost use Rattle.extract_main.specs.Output.{ForPlan, names_of, alone, answers, known, HasAll, Written, Stopped, Completes, Lacking};
+ghost use Rattle.extract_main.specs.Output.{IsKept, ForPlan, names_of, alone, answers, known, HasAll, Written, Stopped, Completes, Lacking};
 ghost use Rattle.extract_main.specs.Ending.{Ended};
 ghost use Rattle.extract_main.specs.Numbers.{status_number};
 
@@ -99,7 +97,7 @@ fn write_alone<W: Sink>(made: Result<Line, NoMemory>, sink: &mut W) -> Status
 fn write_css<W: Sink>(alloc: Global, dialect: Dialect, selector: &str, sink: &mut W) -> Status
     ensures ended { ForPlan (Some (css dialect selector.now)) (λ plan. (told : Option (List (List ℕ × List ℕ))) → (b : ℕ) → (f : ℕ) →
         Ended plan told b b f f (W.taken sink.old) (W.taken sink.new) (W.faults sink.old) (W.faults sink.new) result) }
-    ensures meaning { (list : SelectorList) → Accepts selector.now list → result ≡ Status.Done → KeepsMeaning dialect list (printed dialect list) }
+    ensures meaning { (list : SelectorList) → Accepts selector.now list → result ≡ Status.Done → IsKept dialect list }
     ensures write_fault { result ≡ Status.WriteFault → Rose (W.faults sink.old) (W.faults sink.new) }
     ensures other { (result ≢ Status.Usage) × (result ≢ Status.ReadFault) }
 {
@@ -148,7 +146,7 @@ pub fn extract<P: Pages, W: Sink>(
 
     // The XPath of an accepted list keeps its meaning.
     ensures meaning { (d : Dialect) → (s : List ℕ) → (list : SelectorList) → read (map string_bytes words.now) ≡ Some (css d s) → Accepts s list →
-        result ≡ Status.Done → KeepsMeaning d list (printed d list) }
+        result ≡ Status.Done → IsKept d list }
 {
     match read(words) {
         Form::Css(dialect, selector) => write_css(alloc, dialect, selector, sink),

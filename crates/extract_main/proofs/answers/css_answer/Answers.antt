@@ -1,5 +1,5 @@
-use Rattle.extract_main.proofs.MadeLemmas.{well_made}
-use Rattle.extract_main.proofs.PlainLemmas.{all_small}
+use Rattle.extract_main.proofs.LineLemmas.{all_small}
+use Rattle.css_parser.proofs.WellMadeLemmas.{well_made}
 use Rattle.extract_main.proofs.Readings.{keeps_for}
 use Rattle.extract_main.proofs.answers.css_answer.Goals as goal
 
@@ -7,7 +7,7 @@ pub translate-requires : goal.translate-requires
 translate-requires c = well_made c.args.text.now c.in-Ok.list c.in-Ok.ensures.ok
 
 pub css_line-requires : goal.css_line-requires
-css_line-requires c = all_small c.args.text.now c.in-Ok.list c.in-Ok.ensures.ok
+css_line-requires c = all_small c.in-Ok.list (well_made c.args.text.now c.in-Ok.list c.in-Ok.ensures.ok)
 
 pub returns-in-Ok-translate-clause-meaning : goal.returns-in-Ok-translate-clause-meaning
 returns-in-Ok-translate-clause-meaning c = λ not_refused. keeps_for c.args.dialect c.args.text.now _ c.in-Ok.list c.in-Ok.ensures.ok c.in-Ok-translate.ensures.text c.in-Ok-translate.ensures.meaning
