@@ -197,11 +197,12 @@ fn rows(rt: HostRuntime) -> Result<(), Fail> {
         ),
     ] {
         let words = words(alloc, ["css", dialect, selector].as_slice())?;
-        for most in [1, 9_999] {
-            let (got, bytes) = run(alloc, words.as_slice(), most, 0)?;
-            assert_eq!(rt; got, status);
-            assert_eq!(rt; bytes.as_slice(), line.as_bytes());
-        }
+        let (cut, cut_bytes) = run(alloc, words.as_slice(), 1, 0)?;
+        assert_eq!(rt; cut, status);
+        assert_eq!(rt; cut_bytes.as_slice(), line.as_bytes());
+        let (whole, whole_bytes) = run(alloc, words.as_slice(), 9_999, 0)?;
+        assert_eq!(rt; whole, status);
+        assert_eq!(rt; whole_bytes.as_slice(), line.as_bytes());
     }
     Ok(())
 }
