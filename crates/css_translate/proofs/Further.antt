@@ -11,7 +11,8 @@ use Rattle.css_meaning.specs.declared.selector.Test.{Test}
 use Rattle.css_meaning.specs.declared.selector.Test.TheVariants as test
 use Rattle.css_meaning.specs.WellMade.{FitsTest, IsPart, IsSelector, WellMade}
 use Rattle.css_translate.specs.Printed.{joined, selector_text}
-use Rattle.css_translate.specs.Small.{IsSmallTest, IsSmallSimple, IsSmallPart, IsSmallSelector, further_text}
+use Rattle.css_translate.specs.Inner.{further_text}
+use Rattle.css_translate.specs.Small.{IsSmallTest, IsSmallSimple, IsSmallPart, IsSmallSelector}
 
 pub printed_further : (d : Dialect) (s : Selector) (ss : List Selector) → joined (map (selector_text d) (s ∷ ss)) ≡ selector_text d s ++ flat_map (further_text d) ss
 printed_further d s [] = sym (append-nil (selector_text d s))

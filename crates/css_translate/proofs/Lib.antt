@@ -5,6 +5,7 @@ pub mod KeepsAll
 pub mod Links
 pub mod LinksNext
 pub mod LiteralBytes
+pub mod LiteralMeaning
 pub mod LiteralParts
 pub mod LiteralRuns
 pub mod Means

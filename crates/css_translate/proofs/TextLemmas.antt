@@ -10,7 +10,7 @@ use Rattle.css_meaning.specs.declared.selector.Part.{Part}
 use Rattle.css_meaning.specs.declared.selector.Selector.{Selector}
 use Rattle.css_meaning.specs.declared.selector.SelectorList.{SelectorList}
 use Rattle.css_translate.specs.Texts.{IsSimpleText, IsPartText, IsSelectorText, AreTexts}
-use Rattle.css_translate.specs.Small.{IsReadPart, IsReadSelector}
+use Rattle.css_translate.specs.Read.{IsReadPart, IsReadSelector}
 
 pub scalar_chars : (bs : List ℕ) → IsUtf8 bs → scalars (chars bs) ≡ true
 scalar_chars bs (cs, (s, e)) =

@@ -1,12 +1,15 @@
 pub mod Conditions
 pub mod Examples
 pub mod Expression
+pub mod Inner
+pub mod LiteralLaw
 pub mod Literals
 pub mod Names
 pub mod Plain
 pub mod Predicates
 pub mod Printed
 pub mod Promise
+pub mod Read
 pub mod Rows
 pub mod Runs
 pub mod Simples

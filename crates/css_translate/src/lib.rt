@@ -16,6 +16,6 @@ mod steps;
 mod tests;
 mod texts;
 
-pub use laws::worked_texts;
+pub use laws::{literals_stand_for_texts, worked_texts};
 pub use literals::literal;
 pub use printing::translate;

@@ -100,7 +100,6 @@ pub fn push_element(
 }
 
 /// `@name`, or `attribute::*[name() = 'name']`
-#[tactic(auto, using(crate::proofs::NameCases::plain_attribute, crate::proofs::NameCases::odd_attribute))]
 pub fn push_attribute(
     alloc: Global,
     out: &mut String,

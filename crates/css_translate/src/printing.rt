@@ -4,7 +4,8 @@ ghost use Rattle.css_meaning.specs.WellMade.{WellMade};
 ghost use Rattle.css_translate.specs.Printed.{joined, part_text, tail_text, parts_text, selector_text, printed};
 ghost use Rattle.css_translate.specs.Promise.{KeepsMeaning};
 ghost use Rattle.css_translate.specs.Simples.{simple_text};
-ghost use Rattle.css_translate.specs.Small.{IsSmallSimple, IsSmallPart, IsSmallSelector, further_text};
+ghost use Rattle.css_translate.specs.Inner.{further_text};
+ghost use Rattle.css_translate.specs.Small.{IsSmallSimple, IsSmallPart, IsSmallSelector};
 
 use crate::names::push_attribute;
 use crate::pushing::push;

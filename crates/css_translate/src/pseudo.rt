@@ -44,6 +44,7 @@ fn push_html(out: &mut String, dialect: Dialect, text: &str) -> Result<(), NoMem
     }
 }
 
+/// `[@href and (self::a or ..)]`
 fn push_link(out: &mut String, dialect: Dialect, element: &Option<Txt>) -> Result<(), NoMemory>
     ensures { OnOk result (string_bytes out.new ≡ string_bytes out.old ++ pseudo_text dialect element.now pseudo.Link) }
 {
@@ -54,6 +55,7 @@ fn push_link(out: &mut String, dialect: Dialect, element: &Option<Txt>) -> Resul
     )
 }
 
+/// `[(@selected and self::option) or (@checked and self::input and (..))]`
 fn push_checked(out: &mut String, dialect: Dialect, element: &Option<Txt>) -> Result<(), NoMemory>
     ensures { OnOk result (string_bytes out.new ≡ string_bytes out.old ++ pseudo_text dialect element.now pseudo.Checked) }
 {
@@ -64,6 +66,7 @@ fn push_checked(out: &mut String, dialect: Dialect, element: &Option<Txt>) -> Re
     )
 }
 
+/// `[not(@disabled) and (self::button or ..)]`
 fn push_enabled(out: &mut String, dialect: Dialect, element: &Option<Txt>) -> Result<(), NoMemory>
     ensures { OnOk result (string_bytes out.new ≡ string_bytes out.old ++ pseudo_text dialect element.now pseudo.Enabled) }
 {
@@ -74,6 +77,7 @@ fn push_enabled(out: &mut String, dialect: Dialect, element: &Option<Txt>) -> Re
     )
 }
 
+/// `[@disabled and (self::button or ..)]`
 fn push_disabled(out: &mut String, dialect: Dialect, element: &Option<Txt>) -> Result<(), NoMemory>
     ensures { OnOk result (string_bytes out.new ≡ string_bytes out.old ++ pseudo_text dialect element.now pseudo.Disabled) }
 {

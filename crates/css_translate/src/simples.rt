@@ -1,6 +1,7 @@
 ghost use Rattle.std.specs.Prelude.{◌≡◌, ◌++◌, OnOk, string_bytes};
 ghost use Rattle.css_meaning.specs.declared.selector.Test.TheVariants as test;
-ghost use Rattle.css_translate.specs.Small.{IsSmallTest, IsSmallSimple, negation_text};
+ghost use Rattle.css_translate.specs.Inner.{negation_text};
+ghost use Rattle.css_translate.specs.Small.{IsSmallTest, IsSmallSimple};
 ghost use Rattle.css_translate.specs.Names.{attribute_text};
 ghost use Rattle.css_translate.specs.Simples.{op_text, test_text, negated_text, simple_text};
 

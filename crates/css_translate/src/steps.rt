@@ -7,6 +7,7 @@ use css_meaning::{Dialect, Link};
 use std::alloc::Global;
 use text_base::{NoMemory, Txt};
 
+/// `descendant-or-self::name`
 fn push_first(
     alloc: Global,
     out: &mut String,
@@ -19,6 +20,7 @@ fn push_first(
     push_element(alloc, out, dialect, element)
 }
 
+/// `/descendant::name`
 fn push_descendant(
     alloc: Global,
     out: &mut String,
@@ -31,6 +33,7 @@ fn push_descendant(
     push_element(alloc, out, dialect, element)
 }
 
+/// `/name`
 fn push_child(
     alloc: Global,
     out: &mut String,
@@ -43,7 +46,7 @@ fn push_child(
     push_element(alloc, out, dialect, element)
 }
 
-/// Appends the name of the nearest sibling, where there is one.
+/// `[self::name]`, or nothing where there is no name
 fn push_own_name(
     alloc: Global,
     out: &mut String,
@@ -62,6 +65,7 @@ fn push_own_name(
     }
 }
 
+/// `/following-sibling::*[1][self::name]`
 fn push_next(
     alloc: Global,
     out: &mut String,
@@ -74,6 +78,7 @@ fn push_next(
     push_own_name(alloc, out, dialect, element)
 }
 
+/// `/following-sibling::name`
 fn push_later(
     alloc: Global,
     out: &mut String,
