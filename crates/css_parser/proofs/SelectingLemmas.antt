@@ -107,7 +107,6 @@ cause text fault.Long h = is_long refl h
 cause text fault.Text h = stops refl h
 cause text fault.Syntax h = is_unread refl h
 cause text fault.XPathLong h = absurd h
-cause text fault.Unbuilt h = absurd h
 cause text fault.Memory h = absurd h
 cause text fault.Prefix h = is_refused h
 cause text fault.UnknownPseudo h = is_refused h

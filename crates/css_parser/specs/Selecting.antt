@@ -40,7 +40,6 @@ IsFault text fault.Long = most_bytes < length text
 IsFault text fault.Text = Stops text
 IsFault text fault.Syntax = IsUnread text
 IsFault text fault.XPathLong = ⊥
-IsFault text fault.Unbuilt = ⊥
 IsFault text fault.Memory = ⊥
 IsFault text f = IsRefused text f
 

@@ -31,7 +31,6 @@ selector_word SelectorFault.PseudoElement = codes "PseudoElement"
 selector_word SelectorFault.OfType = codes "OfType"
 selector_word SelectorFault.Number = codes "Number"
 selector_word SelectorFault.XPathLong = codes "XPathLong"
-selector_word SelectorFault.Unbuilt = codes "Unbuilt"
 selector_word SelectorFault.Memory = codes "Memory"
 
 abbrev pub xpath_word : XPathFault → List ℕ

@@ -86,8 +86,6 @@ pub enum SelectorFault {
     Number,
     /// The XPath text would be longer than it may be.
     XPathLong,
-    /// A form that is not built yet.
-    Unbuilt,
     /// Memory was not found.
     Memory,
 }
@@ -107,7 +105,6 @@ impl SelectorFault {
             SelectorFault::OfType => "OfType",
             SelectorFault::Number => "Number",
             SelectorFault::XPathLong => "XPathLong",
-            SelectorFault::Unbuilt => "Unbuilt",
             SelectorFault::Memory => "Memory",
         }
     }
