@@ -21,3 +21,5 @@ pub mod StandLemmas
 pub mod SpellLemmas
 pub mod FaultLemmas
 pub mod PageReadings
+pub mod KeepLemmas
+pub mod LoopLemmas

@@ -88,16 +88,16 @@ all_mean page before i j (x ∷ xs) h =
     (t.0 ∷ rest.0, (t.1, rest.1))
 
 -- one token more
-mean_push : (before : List ℕ) (xs : List Lexed) (x : Lexed) (ts : List Tok) (t : Tok) → AllMean before xs ts → Means (last_name before xs) x t → AllMean before (xs ++ x ∷ []) (ts ++ t ∷ [])
+pub mean_push : (before : List ℕ) (xs : List Lexed) (x : Lexed) (ts : List Tok) (t : Tok) → AllMean before xs ts → Means (last_name before xs) x t → AllMean before (xs ++ x ∷ []) (ts ++ t ∷ [])
 mean_push before [] x [] t h k = (k, tt)
 mean_push before [] x (u ∷ ts) t h k = absurd h
 mean_push before (y ∷ xs) x [] t h k = absurd h
 mean_push before (y ∷ xs) x (u ∷ ts) t h k = (h.0, mean_push (name_after y) xs x ts t h.1 k)
 
-pub spells_none : (page : List ℕ) → Spells page 0 []
+abbrev pub spells_none : (page : List ℕ) → Spells page 0 []
 spells_none page = record { read = []; lexed = refl; meant = tt }
 
-pub spells_push : (page : List ℕ) (at : ℕ) (ts : List Tok) (s : Spells page at ts) (x : Lexed) (t : Tok) → Begins page (last_name [] s.read) at x → Means (last_name [] s.read) x t → Spells page (end_of x) (ts ++ t ∷ [])
+abbrev pub spells_push : (page : List ℕ) (at : ℕ) (ts : List Tok) (s : Spells page at ts) (x : Lexed) (t : Tok) → Begins page (last_name [] s.read) at x → Means (last_name [] s.read) x t → Spells page (end_of x) (ts ++ t ∷ [])
 spells_push page at ts s x t h k = record {
   read = s.read ++ x ∷ [];
   lexed = spell_push page [] 0 at s.read x s.lexed h;

@@ -2,7 +2,9 @@
 #![tactic(auto)]
 
 mod contents;
+mod keeping;
 mod laws;
+mod meaning;
 mod owned;
 mod page;
 mod reader;
