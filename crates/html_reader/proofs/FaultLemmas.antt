@@ -1,6 +1,7 @@
 -- A page builds one document, or has one fault.
-use Rattle.std.proofs.Common.{◌≡◌, ℕ, ◌+◌, ◌<◌, ◌≤◌, ◌⊎◌, inl, inr, List, [], ◌∷◌, ◌++◌, length, sym, refl, ◌∙◌, ap, subst, arith, Option, Some, None}
+use Rattle.std.proofs.Common.{◌≡◌, ℕ, Bool, ◌+◌, ◌<◌, ◌≤◌, ◌⊎◌, inl, inr, List, [], ◌∷◌, ◌++◌, length, sym, refl, ◌∙◌, ap, subst, arith, Option, Some, None}
 use Rattle.text_base.specs.declared.reasons.PageReason.{PageReason}
+use Rattle.text_base.specs.declared.reasons.PageReason.TheVariants.{TooLong, NotUtf8, Nul, BadTag, BadAttribute, BadComment, BadMarkup, StrayEnd, Unclosed, TextOutside, SecondRoot, NoRoot, Deep, Memory}
 use Rattle.doc_model.specs.Document.{Document}
 use Rattle.html_lexer.specs.declared.steps.Step.TheVariants.{Fails}
 use Rattle.html_lexer.specs.Steps.{StepAt}
@@ -8,13 +9,14 @@ use Rattle.html_lexer.specs.Tokens.{Tok as Lexed, last_name}
 use Rattle.html_lexer.specs.Lexing.{Begins, LexFault}
 use Rattle.html_lexer.proofs.LexLemmas.{same_token, one_fault as one_lexical}
 use Rattle.html_lexer.proofs.LexLemmas as lexer
-use Rattle.html_reader.specs.Tokens.{Tok}
-use Rattle.html_reader.specs.Places.{Place, place_marks}
-use Rattle.html_reader.specs.Reading.{Leads, Builds, Refuses}
+use Rattle.html_reader.specs.Tokens.{Tag, Tok, starts, ends, holds}
+use Rattle.html_reader.specs.Places.{Place, place_marks, open_tags, is_rooted}
+use Rattle.html_reader.specs.Reading.{Leads, Builds, Refuses, RefusesNext}
 use Rattle.html_reader.specs.Machine.{State}
 use Rattle.html_reader.specs.Taking.{LeadsTo}
 use Rattle.html_reader.specs.Pages.{Means, Spells, Comes, BuildsPage, IsRefused, IsTreeFault, IsFault, IsPageFault}
-use Rattle.html_reader.specs.PageLaws.{OnePageDocument, OnePageFault, NeverBothOfPage, OneWord}
+use Rattle.html_reader.specs.PageLaws.{OnePageDocument, OnePageFault, NeverBothOfPage, IsPageReason, PageReasons, OneWord}
+use Rattle.html_reader.proofs.MoveLemmas.{step_moves}
 use Rattle.html_reader.proofs.PageLemmas.{one_document}
 use Rattle.html_reader.proofs.StandLemmas.{same_place, stops, same_reason, end_stops, refused_of, led_leads}
 use Rattle.html_reader.proofs.SpellLemmas.{one_meaning, all_mean, Meets, even, less, more, spellings, no_end, no_fail}
@@ -143,6 +145,54 @@ no_fault page doc reason at h (inr k) = not_built page doc reason at h k (spelli
 
 pub never_both_of_page : NeverBothOfPage
 never_both_of_page page doc reason at h k = no_fault page doc reason at h k.fault
+
+-- the reasons
+no_toolong : (tags : List Tag) (rooted : Bool) (next : Option Tok) → RefusesNext tags rooted next TooLong → ⊥
+no_toolong tags rooted (Some (starts tag)) h = h
+no_toolong tags rooted (Some (ends name)) h = h
+no_toolong tags rooted (Some (holds leaf)) h = h
+no_toolong tags rooted None h = h
+
+no_notutf8 : (tags : List Tag) (rooted : Bool) (next : Option Tok) → RefusesNext tags rooted next NotUtf8 → ⊥
+no_notutf8 tags rooted (Some (starts tag)) h = h
+no_notutf8 tags rooted (Some (ends name)) h = h
+no_notutf8 tags rooted (Some (holds leaf)) h = h
+no_notutf8 tags rooted None h = h
+
+no_nul : (tags : List Tag) (rooted : Bool) (next : Option Tok) → RefusesNext tags rooted next Nul → ⊥
+no_nul tags rooted (Some (starts tag)) h = h
+no_nul tags rooted (Some (ends name)) h = h
+no_nul tags rooted (Some (holds leaf)) h = h
+no_nul tags rooted None h = h
+
+no_memory : (tags : List Tag) (rooted : Bool) (next : Option Tok) → RefusesNext tags rooted next Memory → ⊥
+no_memory tags rooted (Some (starts tag)) h = h
+no_memory tags rooted (Some (ends name)) h = h
+no_memory tags rooted (Some (holds leaf)) h = h
+no_memory tags rooted None h = h
+
+tree_reason : (tags : List Tag) (rooted : Bool) (next : Option Tok) (reason : PageReason) → RefusesNext tags rooted next reason → IsPageReason reason
+tree_reason tags rooted next TooLong h = no_toolong tags rooted next h
+tree_reason tags rooted next NotUtf8 h = no_notutf8 tags rooted next h
+tree_reason tags rooted next Nul h = no_nul tags rooted next h
+tree_reason tags rooted next Memory h = no_memory tags rooted next h
+tree_reason tags rooted next BadTag h = tt
+tree_reason tags rooted next BadAttribute h = tt
+tree_reason tags rooted next BadComment h = tt
+tree_reason tags rooted next BadMarkup h = tt
+tree_reason tags rooted next StrayEnd h = tt
+tree_reason tags rooted next Unclosed h = tt
+tree_reason tags rooted next TextOutside h = tt
+tree_reason tags rooted next SecondRoot h = tt
+tree_reason tags rooted next NoRoot h = tt
+tree_reason tags rooted next Deep h = tt
+
+fault_reason : (page : List ℕ) (reason : PageReason) (at : ℕ) → IsFault page reason at → IsPageReason reason
+fault_reason page reason at (inl m) = step_moves page (last_name [] m.0) at (Fails reason) m.2
+fault_reason page reason at (inr tree) = tree_reason (open_tags tree.refused.place) (is_rooted tree.refused.place) tree.next reason tree.refused.refused
+
+pub page_reasons : PageReasons
+page_reasons page reason at h = fault_reason page reason at h.fault
 
 -- one word
 pub one_word : OneWord

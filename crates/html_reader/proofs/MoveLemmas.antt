@@ -19,6 +19,7 @@ use Rattle.html_lexer.specs.declared.steps.TokenAt.TheVariants.{Start, End, Text
 use Rattle.html_lexer.specs.declared.steps.Step.{Step}
 use Rattle.html_lexer.specs.declared.steps.Step.TheVariants.{Gives, Fails}
 use Rattle.html_lexer.specs.Steps.{is_opener, opens, end_tag_at, has_bang_end, comment_at, bracket, doctype_at, query_at, declaration_at, other_at, starts_at, start_of, StartAt, MarkupAt, raw_end, StepAt}
+use Rattle.html_reader.specs.PageLaws.{IsPageReason}
 use Rattle.html_lexer.proofs.PlainLemmas.{other_moves, letter_is_name, letter_some}
 use Rattle.text_base.specs.declared.reasons.PageReason.{PageReason}
 use Rattle.text_base.specs.declared.reasons.PageReason.TheVariants.{BadTag, BadComment, BadMarkup, BadAttribute}
@@ -40,11 +41,12 @@ ltb_lt a b h = grind (arith, nat_tests)
 leb_lt : (a b : ℕ) → leb a b ≡ false → b < a
 leb_lt a b h = grind (arith, nat_tests)
 
--- an attribute and the end of a tag lie where the step begins or behind it, in the text
+-- An attribute and the end of a tag lie where the step begins or behind it, in the text. A refusal has one of the reasons
+-- of a page.
 abbrev pub Moves : List ℕ → ℕ → AttrStep → Type 0
 Moves text i (Reads a) = (i ≤ a.name) × (a.name < a.name_to) × (a.name_to ≤ a.to) × (a.to ≤ length text)
 Moves text i (Closes attrs_to to slash) = (i ≤ attrs_to) × (attrs_to < to) × (to ≤ length text)
-Moves text i (Refuses reason) = Unit {0}
+Moves text i (Refuses reason) = IsPageReason reason
 
 -- a byte that is not 0 stands in the text
 has_byte : (text : List ℕ) (i b : ℕ) → (get_or text i 0 == b) ≡ true → 0 < b → i < length text
@@ -100,6 +102,10 @@ tag_moves text n (a ∷ attributes) attrs_to to slash h =
     let rest = tag_moves text a.to attributes attrs_to to slash h.1 in
     (omega (arith, first, rest), rest.1, rest.2)
 
+tag_refuses : (text : List ℕ) (n : ℕ) (attributes : List Attribute) (reason : PageReason) → TagReads text n attributes (Refuses reason) → IsPageReason reason
+tag_refuses text n [] reason h = subst (Moves text n) h (attr_moves text n)
+tag_refuses text n (a ∷ attributes) reason h = tag_refuses text a.to attributes reason h.1
+
 -- each tag comes to something
 tag_by : (text : List ℕ) (n : ℕ) (s : AttrStep) → attr_at text n ≡ s → ((a : Attribute) → attr_at text n ≡ Reads a → (out : AttrStep) × TagComesTo text a.to out) → (out : AttrStep) × TagComesTo text n out
 tag_by text n (Reads a) e more = let rest = more a e in (rest.0, (a ∷ rest.1.0, (e, rest.1.1)))
@@ -122,7 +128,7 @@ PartsMove text i (Doctype to) = (i < to) × (to ≤ length text)
 
 abbrev pub StepMoves : List ℕ → ℕ → Step → Type 0
 StepMoves text i (Gives parts) = PartsMove text i parts
-StepMoves text i (Fails reason) = Unit {0}
+StepMoves text i (Fails reason) = IsPageReason reason
 
 end_moves : (text : List ℕ) (i : ℕ) → StepMoves text i (end_tag_at text i)
 end_moves text i =
@@ -197,7 +203,7 @@ of_tag text name i n (Reads a) some comes = tt
 of_tag text name i n (Closes attrs_to to slash) some comes =
     pick (StepMoves text i) (is_plaintext name || (slash && is_raw name)) _ _ (λ h. tt)
     (λ h. let m = tag_moves text n comes.0 attrs_to to slash comes.1 in (some, m.0, m.1, m.2, comes))
-of_tag text name i n (Refuses reason) some comes = tt
+of_tag text name i n (Refuses reason) some comes = tag_refuses text n comes.0 reason comes.1
 
 start_moves : (text : List ℕ) (i n : ℕ) (step : Step) → i + 1 < n → StartAt text i n step → StepMoves text i step
 start_moves text i n step some h =

@@ -1,7 +1,7 @@
 //! What holds of all lists of tokens, and of all pages.
 ghost use Rattle.std.specs.Prelude.{ℕ, List};
 ghost use Rattle.html_reader.specs.Laws.{OneDocument, NeverBoth, OneFault};
-ghost use Rattle.html_reader.specs.PageLaws.{OnePageDocument, OnePageFault, NeverBothOfPage, PageAnswer, OneWord};
+ghost use Rattle.html_reader.specs.PageLaws.{OnePageDocument, OnePageFault, NeverBothOfPage, PageReasons, PageAnswer, OneWord};
 
 /// Tokens build one document at most.
 #[tactic(auto, using(crate::proofs::LawLemmas::document_law))]
@@ -27,6 +27,7 @@ pub fn one_page_reading()
     ensures document { OnePageDocument }
     ensures fault { OnePageFault }
     ensures apart { NeverBothOfPage }
+    ensures reasons { PageReasons }
     ensures either { (page : List ℕ) → PageAnswer page }
 {}
 

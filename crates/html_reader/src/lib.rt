@@ -15,3 +15,6 @@ pub use laws::{never_both, one_document, one_fault, one_full_word, one_page_read
 pub use owned::Owned;
 pub use page::read_html;
 pub use token::{Attr, StartTag, Token};
+
+#[cfg(test)]
+mod tests;

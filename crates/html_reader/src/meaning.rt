@@ -35,11 +35,7 @@ pub fn name_after<'p>(token: Lexed<'p>) -> &'p str
 
 /// What the tree takes of a token. `before` is the name of the start tag directly before it, and empty where no start
 /// tag stands there.
-pub fn token_of<'p>(
-    alloc: Global,
-    token: Lexed<'p>,
-    before: &str,
-) -> Result<Token<'p>, NoMemory>
+pub fn token_of<'p>(alloc: Global, token: Lexed<'p>, before: &str) -> Result<Token<'p>, NoMemory>
     requires { IsReadable (view token) }
     ensures means { IfOk result (λ t. Means before.now (view token.entry) (tok_of t)) }
     ensures kept { IfOk result (λ t. IsKept (tok_of t)) }
