@@ -1,9 +1,12 @@
 pub mod Children
 pub mod Contents
 pub mod Forest
+pub mod Keeping
 pub mod Kept
 pub mod Laws
 pub mod Machine
+pub mod PageLaws
+pub mod Pages
 pub mod Parents
 pub mod Pieces
 pub mod Places
