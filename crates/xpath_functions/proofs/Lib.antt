@@ -1,0 +1,5 @@
+mod Places
+mod Positions
+mod Spaces
+mod Translations
+mod Words

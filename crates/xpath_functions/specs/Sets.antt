@@ -1,0 +1,10 @@
+-- Sets of texts.
+use Rattle.std.specs.Prelude.{ℕ, Bool, List, encode_utf8_all}
+use Rattle.std.specs.Ordering.{nat_cmp}
+use Rattle.std.specs.Cmp.Lexicographic.{slice_cmp}
+use Rattle.std.specs.BTreeSet.{BTreeSet, contains_by}
+use denote.Ref.{Bor}
+
+-- whether the set has the text with these characters
+abbrev pub has_text : BTreeSet (Bor (List ℕ)) → List ℕ → Bool
+has_text s q = contains_by (λ k. slice_cmp nat_cmp (encode_utf8_all q) k.now) s
