@@ -1,13 +1,13 @@
 -- The places of one text in another, by bytes and by characters.
-use Rattle.std.proofs.Common.{◌≡◌, ◌≢◌, refl, sym, ◌∙◌, ap, subst, ℕ, zero, suc, ◌+◌, ◌<◌, ◌≤◌, Bool, true, false, cond, eqb, List, [], ◌∷◌, ◌++◌, length, take, drop, Option, Some, None, encode_utf8_all, arith, append_assoc}
-use Rattle.std.specs.Str.{chars, IsUtf8}
+use Rattle.std.proofs.Common.{◌≡◌, ◌≢◌, refl, sym, ◌∙◌, ap, subst, ℕ, zero, suc, ◌+◌, ◌<◌, ◌≤◌, Bool, true, false, cond, eqb, List, [], ◌∷◌, ◌++◌, length, take, drop, Option, Some, None, encode_utf8, encode_utf8_all, arith, append_assoc}
+use Rattle.std.specs.Str.{chars, IsUtf8, IsCharBoundary}
 use Rattle.std.specs.List.{starts_with}
 use Rattle.std.specs.Str.Pattern.{FindsText, LacksTextAt}
 use Rattle.std.proofs.Math.Seq.{drop-append_seam, drop-append-add, take-length}
 use Rattle.std.proofs.lemmas.Bool.{eqb-true, eq-eqb}
 use Rattle.std.proofs.lemmas.List.{length-append, length-drop, take-append-drop, drop-append-le, take-append-le}
 use Rattle.std.proofs.lemmas.Slice.Eq.{starts_is}
-use Rattle.std.proofs.lemmas.Str.{chars-append, encodes-append, encodes-chars, cons_from_encodes, length-le-encodes}
+use Rattle.std.proofs.lemmas.Str.{chars-append, encodes-append, encodes-chars, cons_from_encodes, length-le-encodes, IsUtf8-append, IsUtf8-drop, IsUtf8-take, IsCharBoundary-at_seam}
 use Rattle.xpath_values.specs.Strings.{begins, is_empty, one_more, place_of, before_place, after_place, str_before, str_after}
 
 -- ---- beginning with a text
@@ -16,10 +16,10 @@ begins_parts : (s t : List ℕ) → (begins s t ≡ true → s ≡ t ++ drop (le
 begins_parts s t = starts_is (λ a b. (eqb-true a b, eq-eqb a b)) s t (begins s t) refl
 
 -- the characters split where the bytes do
-split_chars : (v x rest : List ℕ) → encode_utf8_all x ≡ encode_utf8_all v ++ rest → (r : List ℕ) × ((x ≡ v ++ r) × (encode_utf8_all r ≡ rest))
+pub split_chars : (v x rest : List ℕ) → encode_utf8_all x ≡ encode_utf8_all v ++ rest → (r : List ℕ) × ((x ≡ v ++ r) × (encode_utf8_all r ≡ rest))
 split_chars [] x rest e = (x, (refl, e))
 split_chars (c ∷ v) x rest e =
-    let first = cons_from_encodes x (encode_utf8_all v ++ rest) c (e ∙ append_assoc _ _ _) in
+    let first = cons_from_encodes x (encode_utf8_all v ++ rest) c (e ∙ append_assoc (encode_utf8 c) (encode_utf8_all v) rest) in
     let more = split_chars v first.0 rest first.2 in
     (more.0, (first.1 ∙ ap (λ r. c ∷ r) more.1.0, more.1.1))
 
@@ -141,9 +141,20 @@ split_parts n s front back h =
     (sym (take-append-drop h.0 s) ∙ ap (λ v. take h.0 s ++ v) h.2.1.split ∙ ap (λ v. v ++ (n ++ drop h.1 s)) (sym h.3) ∙ ap (λ v. front ++ (n ++ v)) (sym h.4),
     λ k l. h.2.0 k (omega (arith, h.6)))
 
-pub split_is : (n s front back : List ℕ) → IsUtf8 n → IsUtf8 s → IsUtf8 front → Splits n s front back
+-- what stands before the other text is text
+split_utf8 : (n s front back : List ℕ) → IsUtf8 n → IsUtf8 s → Splits n s front back → IsUtf8 front
+split_utf8 n s front back u us h =
+    let i : ℕ = h.0 in
+    let j : ℕ = h.1 in
+    let behind : IsUtf8 (drop j s) = IsUtf8-drop s j us (subst (IsCharBoundary s) (sym h.2.1.ends) h.2.1.after) in
+    let parts : s ≡ take i s ++ (n ++ drop j s) = sym (take-append-drop i s) ∙ ap (λ v. take i s ++ v) h.2.1.split in
+    let seam : IsCharBoundary s (length (take i s)) = IsCharBoundary-at_seam s (take i s) (n ++ drop j s) parts (IsUtf8-append n (drop j s) u behind) in
+    let long : length (take i s) ≡ i = ap (λ (v : List ℕ). length v) (sym h.3) ∙ h.6 in
+    subst IsUtf8 (sym h.3) (IsUtf8-take s i us (subst (IsCharBoundary s) long seam))
+
+pub split_is : (n s front back : List ℕ) → IsUtf8 n → IsUtf8 s → Splits n s front back
     → (place_of (chars n) (chars s) ≡ Some (length (chars front))) × (chars s ≡ chars front ++ (chars n ++ chars back))
-split_is n s front back u us w h = let p = split_parts n s front back h in found_chars n s front back u us w p.0 p.1
+split_is n s front back u us h = let p = split_parts n s front back h in found_chars n s front back u us (split_utf8 n s front back u us h) p.0 p.1
 
 take_front : (xs ys : List ℕ) → take (length xs) (xs ++ ys) ≡ xs
 take_front xs ys = take-append-le (length xs) xs ys (omega arith) ∙ take-length xs

@@ -1,5 +1,5 @@
 -- The table of a translation, as far as it is filled.
-use Rattle.std.proofs.Common.{◌≡◌, refl, sym, ◌∙◌, ap, ℕ, suc, ◌+◌, Bool, true, false, ◌||◌, cond, eqb, List, [], ◌∷◌, ◌++◌, length, Option, Some, None, arith}
+use Rattle.std.proofs.Common.{◌≡◌, refl, sym, ◌∙◌, ap, ℕ, suc, ◌+◌, Bool, true, false, ◌||◌, cond, eqb, List, [], ◌∷◌, ◌++◌, length, Option, Some, None, arith, zero-add}
 use Rattle.std.specs.Prelude.{slice_get}
 use Rattle.std.specs.List.{position_from}
 use Rattle.xpath_functions.specs.Translations.{place_in, image_at, image_in}
@@ -20,4 +20,4 @@ position_append p at (x ∷ xs) d = by_test (p x) (position_append p (at + 1) xs
 
 -- one character more
 pub place_more : (xs : List ℕ) (d c : ℕ) → place_in (xs ++ d ∷ []) c ≡ or_else (place_in xs c) (cond (eqb d c) (Some (length xs)) None)
-place_more xs d c = position_append (λ e. eqb e c) 0 xs d
+place_more xs d c = position_append (λ e. eqb e c) 0 xs d ∙ ap (λ n. or_else (place_in xs c) (cond (eqb d c) (Some n) None)) (zero-add (length xs))

@@ -9,6 +9,7 @@ ghost use Rattle.xpath_functions.specs.Rows.{AreRows, AreWithin, IsWithin};
 
 use crate::ids::{rows_with_ids, words_of_value};
 use crate::numbers::counted;
+use crate::texts::nothing;
 use doc_model::Tree;
 use std::alloc::Global;
 use text_base::{NoMemory, Seq, Txt};
@@ -75,7 +76,7 @@ fn first_name<T: Tree>(alloc: Global, tree: &T, rows: &[u32]) -> Result<Txt, NoM
     ensures { IfOk result (λ t. t ≡ first_name (T.document tree.now) rows.now) }
 {
     if rows.len() == 0 {
-        return Txt::of(alloc, "");
+        return Txt::of(alloc, nothing());
     }
     Txt::of(alloc, tree.name(rows[0]))
 }
@@ -116,5 +117,5 @@ pub fn local_name<T: Tree>(
 pub fn namespace_uri(alloc: Global) -> Result<Txt, NoMemory>
     ensures { IfOk result (λ t. t ≡ []) }
 {
-    Txt::of(alloc, "")
+    Txt::of(alloc, nothing())
 }

@@ -1,8 +1,10 @@
 //! Parts of a text, and tests on them, XPath 1.0, section 4.2.
 ghost use Rattle.std.specs.Prelude.{◌≡◌};
 ghost use Rattle.std.specs.Str.{chars};
+ghost use Rattle.xpath_values.specs.declared.value.XNum.TheVariants.{Whole};
 ghost use Rattle.xpath_values.specs.Strings as spec;
 
+use crate::texts::nothing;
 use text_base::char_sub;
 use xpath_values::XNum;
 
@@ -17,7 +19,10 @@ pub fn begins(text: &str, start: &str) -> bool
 pub fn includes(text: &str, part: &str) -> bool
     ensures { result ≡ spec.str_contains (chars text.now) (chars part.now) }
 {
-    text.split_once(part).is_some()
+    match text.split_once(part) {
+        Some(_) => true,
+        None => false,
+    }
 }
 
 /// What stands before the first place of the other, or the empty text.
@@ -26,7 +31,7 @@ pub fn before<'a>(text: &'a str, mark: &str) -> &'a str
 {
     match text.split_once(mark) {
         Some((front, _)) => front,
-        None => "",
+        None => nothing(),
     }
 }
 
@@ -36,8 +41,20 @@ pub fn after<'a>(text: &'a str, mark: &str) -> &'a str
 {
     match text.split_once(mark) {
         Some((_, back)) => back,
-        None => "",
+        None => nothing(),
     }
+}
+
+fn places_from(text: &str, from: i64) -> &str
+    ensures { chars result.now ≡ spec.substring_from (chars text.now) (Whole from) }
+{
+    char_sub(text, from, None)
+}
+
+fn places_of(text: &str, from: i64, len: i64) -> &str
+    ensures { chars result.now ≡ spec.substring_of (chars text.now) (Whole from) (Whole len) }
+{
+    char_sub(text, from, Some(len))
 }
 
 /// The characters at the positions from a number on, which count from 1.
@@ -45,8 +62,8 @@ pub fn part_from(text: &str, from: XNum) -> &str
     ensures { chars result.now ≡ spec.substring_from (chars text.now) from }
 {
     match from {
-        XNum::Whole(from) => char_sub(text, from, None),
-        XNum::NaN => "",
+        XNum::Whole(from) => places_from(text, from),
+        XNum::NaN => nothing(),
     }
 }
 
@@ -55,7 +72,7 @@ pub fn part_of(text: &str, from: XNum, len: XNum) -> &str
     ensures { chars result.now ≡ spec.substring_of (chars text.now) from len }
 {
     match (from, len) {
-        (XNum::Whole(from), XNum::Whole(len)) => char_sub(text, from, Some(len)),
-        _ => "",
+        (XNum::Whole(from), XNum::Whole(len)) => places_of(text, from, len),
+        _ => nothing(),
     }
 }

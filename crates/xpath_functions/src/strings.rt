@@ -11,7 +11,7 @@ use crate::building::{joined, normalized, translated};
 use crate::conversions::number_of;
 use crate::numbers::counted;
 use crate::parts::{after, before, begins, includes, part_from, part_of};
-use crate::texts::{text_at, text_or_row};
+use crate::texts::{nothing, text_at, text_or_row};
 use doc_model::Tree;
 use std::alloc::Global;
 use text_base::{NoMemory, Seq, Txt, char_len};
@@ -94,7 +94,7 @@ pub fn substring<T: Tree>(alloc: Global, tree: &T, args: &Seq<Value>) -> Result<
 {
     let text = text_at(alloc, tree, args, 0)?;
     match args.as_slice() {
-        [] | [_] => Txt::of(alloc, ""),
+        [] | [_] => Txt::of(alloc, nothing()),
         [_, from] => Txt::of(alloc, part_from(text.as_str(), number_of(alloc, tree, from)?)),
         [_, from, len, ..] => {
             let from = number_of(alloc, tree, from)?;

@@ -15,6 +15,21 @@ use std::alloc::Global;
 use text_base::{NoMemory, Seq, Txt};
 use xpath_values::{Value, XNum, num_text};
 
+/// The text itself.
+fn whole(text: &str) -> &str
+    ensures chars { chars result.now ≡ chars text.now }
+    ensures bytes { result.now ≡ encode_utf8_all (chars text.now) }
+{
+    text
+}
+
+/// The empty text.
+pub fn nothing() -> &'static str
+    ensures { chars result.now ≡ [] }
+{
+    ""
+}
+
 /// A text that stands in the document or a value, or was made.
 #[derive(Drop)]
 pub enum Text<'a> {
@@ -29,8 +44,8 @@ impl Text<'_> {
         ensures bytes { result.now ≡ encode_utf8_all (chars_of self.now) }
     {
         match self {
-            Text::Lent(text) => text,
-            Text::Made(text) => text.as_str(),
+            Text::Lent(text) => whole(text),
+            Text::Made(text) => whole(text.as_str()),
         }
     }
 
@@ -73,7 +88,7 @@ fn first_text<'a, T: Tree>(
     ensures { IfOk result (λ t. chars_of t ≡ spec.text_of_rows (T.document tree.now) rows.now) }
 {
     if rows.len() == 0 {
-        return Ok(Text::Lent(""));
+        return Ok(Text::Lent(nothing()));
     }
     row_text(alloc, tree, rows[0])
 }
@@ -115,7 +130,7 @@ pub fn text_at<'a, T: Tree>(
     if i < args.len() {
         return value_text(alloc, tree, &args[i]);
     }
-    Ok(Text::Lent(""))
+    Ok(Text::Lent(nothing()))
 }
 
 /// The string of the first argument, or of the row where it is missing.
