@@ -1,4 +1,9 @@
+mod FirstIds
 mod Lists
+mod Named
+mod Nearest
+mod Orders
+mod Pairs
 mod Places
 mod Positions
 mod Pushes

@@ -124,7 +124,10 @@ fn differ<T: Tree>(alloc: Global, tree: &T, xs: &[u32], ys: &[u32]) -> Result<bo
     requires right { AreRows (T.document tree.now) ys.now }
     ensures { IfOk result (λ r. r ≡ spec.fits (T.document tree.now) op.Unequal (Nodes xs.now) (Nodes ys.now)) }
 {
-    if xs.len() == 0 || ys.len() == 0 {
+    if xs.len() == 0 {
+        return Ok(false);
+    }
+    if ys.len() == 0 {
         return Ok(false);
     }
     let text = row_text(alloc, tree, xs[0])?;
@@ -167,6 +170,13 @@ fn extreme_of<T: Tree>(
     Ok(found)
 }
 
+/// Whether the order asks for the least number on its left side.
+fn goes_up(op: Compare) -> bool
+    ensures { result ≡ extremes.goes_up op }
+{
+    matches!(op, Compare::Less | Compare::LessEqual)
+}
+
 /// Whether an order holds between a row of each side: whether it holds between the least number of one side and the
 /// greatest of the other.
 fn in_order<T: Tree>(
@@ -181,7 +191,7 @@ fn in_order<T: Tree>(
     requires right { AreRows (T.document tree.now) ys.now }
     ensures { IfOk result (λ r. r ≡ spec.fits (T.document tree.now) op (Nodes xs.now) (Nodes ys.now)) }
 {
-    let up = matches!(op, Compare::Less | Compare::LessEqual);
+    let up = goes_up(op);
     let left = extreme_of(alloc, tree, up, xs)?;
     let right = extreme_of(alloc, tree, !up, ys)?;
     Ok(num_fits(op, left, right))

@@ -1,12 +1,12 @@
 //! The function `id`, XPath 1.0, section 4.1.
-ghost use Rattle.std.specs.Prelude.{◌≡◌, ◌<◌, ℕ, List, length, flat_map, filter, IfOk, IfSome};
+ghost use Rattle.std.specs.Prelude.{◌≡◌, ◌<◌, ◌&&◌, not, ℕ, Bool, List, length, flat_map, filter, IfOk, IfSome};
 ghost use Rattle.std.specs.List.{list_any};
 ghost use Rattle.std.specs.Str.{bytes_eq, chars};
 ghost use Rattle.doc_model.specs.Document.{rows};
 ghost use Rattle.doc_model.specs.StringValue as values;
 ghost use Rattle.xpath_functions.specs.Attributes as spec;
 ghost use Rattle.xpath_functions.specs.Rows.{AreRows, IsWithin};
-ghost use Rattle.xpath_functions.specs.Sets.{has_text};
+ghost use Rattle.xpath_functions.specs.Sets.{has_text, AreLeft};
 ghost use Rattle.xpath_parser.specs.Functions as functions;
 ghost use Rattle.xpath_values.specs.Strings as strings;
 
@@ -77,22 +77,32 @@ fn id_of<T: Tree>(tree: &T, y: u32) -> Option<u32>
 {
     match tree.kind(y) {
         Kind::Element => attribute_named(tree, y, "id"),
-        _ => None,
+        Kind::Root | Kind::Attribute | Kind::Text | Kind::Comment => None,
+    }
+}
+
+/// Whether the row is the first element with one of the ids that are left, which is taken out.
+fn is_found<T: Tree>(tree: &T, left: &mut BTreeSet<&str>, y: u32) -> bool
+    requires { y < length (T.document tree.now) }
+    ensures found { (ws : List (List ℕ)) (earlier : List ℕ → Bool) → AreLeft left.old ws earlier → result ≡ list_any (λ w. functions.has_id (T.document tree.now) w y && not (earlier w)) ws }
+    ensures left { (q : List ℕ) → has_text left.new q ≡ (not (functions.has_id (T.document tree.now) q y) && has_text left.old q) }
+{
+    match id_of(tree, y) {
+        Some(z) => take_out(left, tree.text(z)),
+        None => false,
     }
 }
 
 /// The first element with each of the ids, in document order. Each row is read once, and each id of an element is
-/// looked up once; a word that is found is not looked for further.
+/// looked up once; an id that is found is not looked for further.
 pub fn rows_with_ids<T: Tree>(alloc: Global, tree: &T, words: &[Txt]) -> Result<Vec<u32>, NoMemory>
     ensures { IfOk result (λ v. v.items ≡ filter (λ y. list_any (λ w. functions.is_id (T.document tree.now) w y) words.now) (rows (T.document tree.now))) }
 {
-    let mut wanted = set_of(alloc, words)?;
+    let mut left = set_of(alloc, words)?;
     let mut found = Vec::new(alloc);
     for y in 0..tree.len() {
-        if let Some(z) = id_of(tree, y) {
-            if take_out(&mut wanted, tree.text(z)) {
-                found.push(y)?;
-            }
+        if is_found(tree, &mut left, y) {
+            found.push(y)?;
         }
     }
     Ok(found)

@@ -33,11 +33,10 @@ fn nearest_language<T: Tree>(tree: &T, node: u32) -> Option<u32>
 {
     let mut y = node;
     while y > 0 {
-        let found = attribute_named(tree, y, "xml:lang");
-        if found.is_some() {
-            return found;
+        match attribute_named(tree, y, "xml:lang") {
+            Some(z) => return Some(z),
+            None => y = tree.parent(y),
         }
-        y = tree.parent(y);
     }
     attribute_named(tree, y, "xml:lang")
 }

@@ -3,6 +3,7 @@ ghost use Rattle.std.specs.Prelude.{◌≡◌, ◌<◌, ◌∷◌, [], length, I
 ghost use Rattle.std.specs.Str.{chars};
 ghost use Rattle.doc_model.specs.StringValue as rows;
 ghost use Rattle.xpath_values.specs.declared.value.Value.TheVariants.{Nodes};
+ghost use Rattle.xpath_values.specs.declared.value.XNum.TheVariants.{Whole};
 ghost use Rattle.xpath_values.specs.Numbers as numbers;
 ghost use Rattle.xpath_values.specs.Strings as strings;
 ghost use Rattle.xpath_parser.specs.Conversions as spec;
@@ -60,11 +61,20 @@ impl Text<'_> {
     }
 }
 
+fn whole_text(alloc: Global, whole: i64) -> Result<String, NoMemory>
+    ensures { IfOk result (λ s. chars (string_bytes s) ≡ numbers.num_text (Whole whole)) }
+{
+    num_text(alloc, XNum::Whole(whole))
+}
+
 /// The digits of a number, or `NaN`.
 fn number_text(alloc: Global, number: XNum) -> Result<String, NoMemory>
     ensures { IfOk result (λ s. chars (string_bytes s) ≡ numbers.num_text number) }
 {
-    num_text(alloc, number)
+    match number {
+        XNum::Whole(whole) => whole_text(alloc, whole),
+        XNum::NaN => num_text(alloc, XNum::NaN),
+    }
 }
 
 /// The string value of a row.

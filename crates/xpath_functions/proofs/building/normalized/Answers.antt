@@ -1,10 +1,14 @@
-use Rattle.std.proofs.Common.{sym, ap, ◌∙◌, map-id}
+use Rattle.std.proofs.Common.{refl, sym, ap, ◌∙◌, map-id}
 use Rattle.std.specs.Str.{chars}
 use Rattle.std.proofs.lemmas.Iterator.{YieldsList-from_chars}
 use Rattle.std.proofs.lemmas.Iterator.Consumers.{YieldsList-end}
+use Rattle.std.proofs.lemmas.Str.{chars-nil}
 use Rattle.xpath_functions.specs.Spacing.{start, after}
 use Rattle.xpath_functions.proofs.Spaces.{spaced}
 use Rattle.xpath_functions.proofs.building.normalized.Goals as goal
+
+pub loop-c-init : goal.loop-c-init
+loop-c-init c = record { text = ap chars c.new-out.ensures.bytes ∙ chars-nil; apart = refl }
 
 pub returns : goal.returns
 returns c =
