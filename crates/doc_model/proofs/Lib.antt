@@ -1,8 +1,8 @@
 pub mod Awaits
-mod AxisWalks
+pub mod AxisWalks
 pub mod Below
 pub mod Ending
-mod Filters
+pub mod Filters
 pub mod Grown
 mod Partition
 mod Pushed
