@@ -5,6 +5,8 @@ ghost use Rattle.xpath_parser.specs.Denote.{denote};
 ghost use Rattle.xpath_parser.specs.Typed.{expression};
 ghost use Rattle.xpath_eval.specs.Rows.{AreRows};
 
+use crate::evaluation::value_at;
+use crate::place::Place;
 use doc_model::Axes;
 use std::alloc::Global;
 use text_base::NoMemory;
@@ -23,5 +25,14 @@ pub fn eval<S: Axes>(
     ensures value { IfOk result (λ v. v ≡ denote (S.document source.now) (expression e.now) (record { row = node; position = 1; size = 1 })) }
     ensures rows { IfOk result (λ v. AreRows (S.document source.now) (rows_of v)) }
 {
-    Err(NoMemory)
+    value_at(
+        alloc,
+        source,
+        e.expr(),
+        Place {
+            row: node,
+            position: 1,
+            size: 1,
+        },
+    )
 }
