@@ -1,0 +1,4 @@
+pub mod Gathers
+pub mod Kept
+pub mod Lists
+pub mod Turns

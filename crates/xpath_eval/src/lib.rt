@@ -1,0 +1,10 @@
+//! Evaluation of XPath 1.0 expressions in a document.
+#![tactic(auto)]
+
+mod evaluation;
+mod forms;
+mod ordering;
+mod place;
+mod top;
+
+pub use top::eval;
