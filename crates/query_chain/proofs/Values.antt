@@ -35,22 +35,22 @@ not_refused (step.Query query) (search q) h = absurd h
 not_refused (step.Match pattern) (select x) h = absurd h
 not_refused (step.Match pattern) (search p) h = ap not h.1
 
-same_actions : (steps : List ChainStep) (as bs : List Action) → AreActions steps as → AreActions steps bs → as ≡ bs
+same_actions : (steps : List ChainStep) (xs bs : List Action) → AreActions steps xs → AreActions steps bs → xs ≡ bs
 same_actions [] [] [] h k = refl
 same_actions [] [] (b ∷ bs) h k = absurd k
-same_actions [] (a ∷ as) bs h k = absurd h
+same_actions [] (a ∷ xs) bs h k = absurd h
 same_actions (s ∷ steps) [] bs h k = absurd h
-same_actions (s ∷ steps) (a ∷ as) [] h k = absurd k
-same_actions (s ∷ steps) (a ∷ as) (b ∷ bs) h k = ap₂ ◌∷◌ (same_action s a b h.0 k.0) (same_actions steps as bs h.1 k.1)
+same_actions (s ∷ steps) (a ∷ xs) [] h k = absurd k
+same_actions (s ∷ steps) (a ∷ xs) (b ∷ bs) h k = ap₂ ◌∷◌ (same_action s a b h.0 k.0) (same_actions steps xs bs h.1 k.1)
 
 -- steps that do something have no pattern that is refused
-pub none_refused : (steps : List ChainStep) (as : List Action) → AreActions steps as → list_any is_refused steps ≡ false
-none_refused [] as h = refl
+pub none_refused : (steps : List ChainStep) (xs : List Action) → AreActions steps xs → list_any is_refused steps ≡ false
+none_refused [] xs h = refl
 none_refused (s ∷ steps) [] h = absurd h
-none_refused (s ∷ steps) (a ∷ as) h = ap₂ ◌||◌ (not_refused s a h.0) (none_refused steps as h.1)
+none_refused (s ∷ steps) (a ∷ xs) h = ap₂ ◌||◌ (not_refused s a h.0) (none_refused steps xs h.1)
 
-refused_and_run : (steps : List ChainStep) (as : List Action) → list_any is_refused steps ≡ true → AreActions steps as → ⊥
-refused_and_run steps as h k = let e : true ≡ false = sym h ∙ none_refused steps as k in cc
+refused_and_run : (steps : List ChainStep) (xs : List Action) → list_any is_refused steps ≡ true → AreActions steps xs → ⊥
+refused_and_run steps xs h k = let e : true ≡ false = sym h ∙ none_refused steps xs k in cc
 
 -- at most one value
 one_chain_value : (limits : Limits) (doc : Document) (x : ℕ) (c : Chain) (v w : FieldValue) → IsChainValue limits doc x c v → IsChainValue limits doc x c w → v ≡ w
@@ -59,7 +59,7 @@ one_chain_value limits doc x (chain.Steps steps end) v w (inl h) (inl k) = h.1 �
 one_chain_value limits doc x (chain.Steps steps end) v w (inl h) (inr k) = absurd (refused_and_run steps k.0 h.0 k.1)
 one_chain_value limits doc x (chain.Steps steps end) v w (inr h) (inl k) = absurd (refused_and_run steps h.0 k.0 h.1)
 one_chain_value limits doc x (chain.Steps steps end) v w (inr h) (inr k) =
-    h.2 ∙ (ap (λ as. answer limits doc x as end) (same_actions steps h.0 k.0 h.1 k.1) ∙ sym k.2)
+    h.2 ∙ (ap (λ xs. answer limits doc x xs end) (same_actions steps h.0 k.0 h.1 k.1) ∙ sym k.2)
 
 or_parts : (a b : Bool) → (a || b) ≡ false → (a ≡ false) × (b ≡ false)
 or_parts true b e = cc
@@ -70,7 +70,7 @@ not_false true e = refl
 not_false false e = cc
 
 -- at least one, for an ordered chain
-actions_of : (nodes : Bool) (steps : List ChainStep) → AreOrdered nodes steps → list_any is_refused steps ≡ false → (as : List Action) × AreActions steps as
+actions_of : (nodes : Bool) (steps : List ChainStep) → AreOrdered nodes steps → list_any is_refused steps ≡ false → (xs : List Action) × AreActions steps xs
 actions_of nodes [] h e = ([], tt)
 actions_of nodes (step.Query query ∷ steps) h e =
     let rest = actions_of _ steps h.1.1.1 e in
@@ -84,8 +84,8 @@ a_chain_value : (limits : Limits) (doc : Document) (x : ℕ) (c : Chain) → IsO
 a_chain_value limits doc x (chain.Refused why) h = (value.Refused why, refl)
 a_chain_value limits doc x (chain.Steps steps end) h =
     (elim (list_any is_refused steps) as (λ b. list_any is_refused steps ≡ b → (v : FieldValue) × IsChainValue limits doc x (chain.Steps steps end) v) [
-      true ↦ λ e. (value.Refused reason.Pattern, inl (e, refl))
-    | false ↦ λ e. let found = actions_of true steps h e in (answer limits doc x found.0 end, inr (found.0, found.1, refl))
+      | true ↦ λ e. (value.Refused reason.Pattern, inl (e, refl))
+      | false ↦ λ e. let found = actions_of true steps h e in (answer limits doc x found.0 end, inr (found.0, found.1, refl))
     ]) refl
 
 pub one_value : (doc : Document) (field : Field) (v w : FieldValue) → IsValue doc field v → IsValue doc field w → v ≡ w

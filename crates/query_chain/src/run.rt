@@ -8,11 +8,7 @@ use std::alloc::Global;
 use text_base::NoMemory;
 
 /// The value of a field on a document, from the root node.
-pub fn run_field<S: Axes>(
-    alloc: Global,
-    source: &S,
-    field: &Field,
-) -> Result<FieldValue, NoMemory>
+pub fn run_field<S: Axes>(alloc: Global, source: &S, field: &Field) -> Result<FieldValue, NoMemory>
     requires { IsOrdered field.now }
     ensures { IfOk result (λ v. IsValue (S.document source.now) field.now v) }
 {
