@@ -1,12 +1,12 @@
 pub mod Awaits
-mod AxisWalks
+pub mod AxisWalks
 pub mod Below
 pub mod Ending
-mod Filters
+pub mod Filters
 pub mod Grown
 mod Partition
 mod Pushed
 pub mod Runs
-mod Texts
-mod WalkSteps
+pub mod Texts
+pub mod WalkSteps
 mod Worked

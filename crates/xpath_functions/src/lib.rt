@@ -1,0 +1,10 @@
+//! The functions of XPath 1.0, section 4, with the conversions and comparisons of its values, in a document.
+#![tactic(auto)]
+
+mod calls;
+mod comparisons;
+mod conversions;
+
+pub use calls::call;
+pub use comparisons::fits;
+pub use conversions::{number_of, text_of, truth_of};
