@@ -4,3 +4,6 @@ pub mod Found
 pub mod Items
 pub mod Laws
 pub mod Patterns
+pub mod Readiness
+pub mod Steps
+pub mod Values

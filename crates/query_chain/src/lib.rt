@@ -2,11 +2,15 @@
 #![tactic(auto)]
 
 mod found;
+mod items;
 mod laws;
 mod limits;
 mod pattern;
+mod ready;
 mod run;
 mod search;
+mod select;
+mod steps;
 
 pub use laws::{a_value, one_value};
 pub use run::run_field;

@@ -1,17 +1,20 @@
 //! The matches of a pattern in a text, one after the other.
-ghost use Rattle.std.specs.Prelude.{◌≡◌, ◌≢◌, ◌≤◌, ◌<◌, ◌+◌, ⊤, ℕ, true, false, None, Some, [], map, length, slice_range, IfOk, OnOk, MatchOption, IsErrOf};
+ghost use Rattle.std.specs.Prelude.{◌≡◌, ◌≢◌, ◌≤◌, ◌<◌, ◌+◌, ⊤, ℕ, true, false, None, Some, [], map, length, slice_range, flat_map, IfOk, OnOk, MatchOption, IsErrOf};
 ghost use Rattle.std.specs.Str.{chars};
 ghost use Rattle.std.specs.Option.{option_map_or};
 ghost use Rattle.regex.specs.Patterns.{Match, find_str};
 ghost use Rattle.regex.specs.Search.{next_match};
-ghost use Rattle.regex.specs.Strings.{matcher_pattern, captures_span, captures_haystack, IsCapturesOf};
-ghost use Rattle.query_chain.specs.Patterns.{match_texts, texts_of};
+ghost use Rattle.regex.specs.Strings.{matcher_pattern, regex_source, captures_span, captures_haystack, IsCapturesOf};
+ghost use Rattle.query_chain.specs.Patterns.{match_texts, texts_of, found_texts};
+ghost use Rattle.query_chain.specs.Built.{IsBuilt};
+ghost use Rattle.query_chain.specs.Items.{bytes_of};
 ghost use Rattle.query_chain.specs.Found.{Adds};
 
 use crate::found::Found;
 use crate::limits::{Limits, Stop};
-use regex::{Captures, Matcher};
+use regex::{Captures, Matcher, Regex};
 use std::alloc::Global;
+use text_base::Txt;
 
 /// What a group matched, or nothing.
 fn group_text<'h>(captures: &Captures<'_, 'h>, k: usize) -> &'h str
@@ -115,4 +118,39 @@ pub fn add_matches(
         after = end + 1;
     }
     Ok(())
+}
+
+/// The texts that a pattern finds in texts, joined in order. It is Selection where they are too many, else Output where
+/// they have too many bytes together.
+pub fn search_texts(
+    alloc: Global,
+    regex: &Regex,
+    texts: &[Txt],
+    limits: Limits,
+) -> Result<Vec<Txt>, Stop>
+    requires { IsBuilt (chars (regex_source regex.now)) regex.now }
+    ensures texts { IfOk result (λ v. v.items ≡ flat_map (found_texts (chars (regex_source regex.now))) texts.now) }
+    ensures few { IfOk result (λ v. length v.items ≤ limits.items) }
+    ensures within { IfOk result (λ v. bytes_of v.items ≤ limits.bytes) }
+    ensures many { IsErrOf result Stop.Selection → limits.items < length (flat_map (found_texts (chars (regex_source regex.now))) texts.now) }
+    ensures over { IsErrOf result Stop.Output → (length (flat_map (found_texts (chars (regex_source regex.now))) texts.now) ≤ limits.items)
+        × (limits.bytes < bytes_of (flat_map (found_texts (chars (regex_source regex.now))) texts.now)) }
+{
+    let groups = regex.captures_len();
+    let mut matcher = regex.matcher(alloc)?;
+    let mut found = Found::new(alloc);
+    for text in texts {
+        add_matches(
+            alloc,
+            &mut matcher,
+            text.as_str(),
+            groups,
+            limits,
+            &mut found,
+        )?;
+    }
+    if found.is_over {
+        return Err(Stop::Output);
+    }
+    Ok(found.texts)
 }
