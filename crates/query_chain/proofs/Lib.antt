@@ -1,0 +1,5 @@
+pub mod Adding
+pub mod Building
+pub mod Matching
+pub mod Starts
+pub mod Values

@@ -1,0 +1,34 @@
+-- Steps that are read and built.
+use Rattle.std.specs.Prelude.{◌≡◌, ℕ, ◌<◌, List, [], ◌∷◌, length, slice_index_or, encode_utf8_all}
+use Rattle.std.specs.Str.{chars}
+use Rattle.xpath_parser.specs.Laws.{IsRead}
+use Rattle.xpath_parser.specs.Reading.{ReadsAs}
+use Rattle.xpath_parser.specs.Typed.{expression}
+use Rattle.query_script.specs.declared.script.ChainStep.{ChainStep}
+use Rattle.query_script.specs.declared.script.ChainStep.TheVariants as step
+use Rattle.regex.specs.Strings.{regex_source}
+use Rattle.query_chain.specs.declared.ready.Ready.{Ready}
+use Rattle.query_chain.specs.declared.ready.Ready.TheVariants as ready
+use Rattle.query_chain.specs.Built.{IsBuilt}
+
+-- the text of the query reads as an expression
+abbrev pub IsReadable : ChainStep → Type 0
+IsReadable (step.Query query) = IsRead (encode_utf8_all query)
+IsReadable (step.Match pattern) = Unit {0}
+
+-- each step does
+pub record AreReadable (steps : List ChainStep) : Type 0 where
+  pub each : (k : ℕ) (d : ChainStep) → k < length steps → IsReadable (slice_index_or steps k d)
+
+-- it is what the step's text reads as, or what its pattern is built to
+abbrev pub IsReady : ChainStep → Ready → Type 0
+IsReady (step.Query query) (ready.Query typed) = ReadsAs (encode_utf8_all query) (expression typed)
+IsReady (step.Query query) (ready.Match regex) = ⊥
+IsReady (step.Match pattern) (ready.Query typed) = ⊥
+IsReady (step.Match pattern) (ready.Match regex) = (chars (regex_source regex) ≡ pattern) × IsBuilt pattern regex
+
+abbrev pub AreReady : List ChainStep → List Ready → Type 0
+AreReady [] [] = Unit {0}
+AreReady [] (r ∷ ready) = ⊥
+AreReady (s ∷ steps) [] = ⊥
+AreReady (s ∷ steps) (r ∷ ready) = IsReady s r × AreReady steps ready

@@ -1,0 +1,180 @@
+//! One step after the other.
+ghost use Rattle.std.specs.Prelude.{◌≡◌, ◌≤◌, ◌<◌, [], ◌∷◌, map, length, IfOk, IfErr};
+ghost use Rattle.std.specs.Str.{chars};
+ghost use Rattle.regex.specs.Strings.{regex_source};
+ghost use Rattle.xpath_parser.specs.Typed.{expression};
+ghost use Rattle.query_chain.specs.Built.{IsBuilt};
+ghost use Rattle.query_chain.specs.Chains as spec;
+ghost use Rattle.query_chain.specs.Chains.{item_texts, step_items, step_passes, last_items, steps_pass, end_passes, taken_texts, answer};
+ghost use Rattle.query_chain.specs.Items.{node};
+ghost use Rattle.query_chain.specs.Steps.{items_of, AreIn, action_of, IsUsable, AreUsable, IsFirst, IsStopOf};
+
+use crate::items::{Items, texts_of};
+use crate::limits::{Limits, Stop};
+use crate::ready::Ready;
+use crate::search::search_texts;
+use crate::select::{select_rows, select_texts};
+use doc_model::Axes;
+use query_script::{FieldValue, Take};
+use regex::Regex;
+use std::alloc::Global;
+use text_base::{Seq, Txt};
+use xpath_parser::Typed;
+use xpath_values::Shape;
+
+/// What a query gives at the items: rows or texts, by its shape. There are no items that are texts.
+fn select<S: Axes>(
+    alloc: Global,
+    source: &S,
+    query: &Typed,
+    items: &Items,
+    limits: Limits,
+) -> Result<Items, Stop>
+    requires within { AreIn (S.document source.now) items.now }
+    requires few { length (items_of items.now) ≤ limits.items }
+    ensures items { IfOk result (λ v. items_of v ≡ step_items (S.document source.now) (spec.select (expression query.now)) (items_of items.now)) }
+    ensures passes { IfOk result (λ v. step_passes limits (S.document source.now) (spec.select (expression query.now)) (items_of items.now) ≡ []) }
+    ensures within { IfOk result (AreIn (S.document source.now)) }
+    ensures few { IfOk result (λ v. length (items_of v) ≤ limits.items) }
+    ensures stop { IfErr result (λ s. IsFirst s (step_passes limits (S.document source.now) (spec.select (expression query.now)) (items_of items.now))) }
+{
+    match items {
+        Items::Rows(rows) => {
+            if query.shape() == Shape::Nodes {
+                Ok(Items::Rows(select_rows(
+                    alloc,
+                    source,
+                    query,
+                    rows.as_slice(),
+                    limits,
+                )?))
+            } else {
+                Ok(Items::Texts(select_texts(
+                    alloc,
+                    source,
+                    query,
+                    rows.as_slice(),
+                    limits,
+                )?))
+            }
+        }
+        Items::Texts(_) => Ok(Items::Texts(Vec::new(alloc))),
+    }
+}
+
+/// What a pattern finds in the texts of the items.
+fn search<S: Axes>(
+    alloc: Global,
+    source: &S,
+    regex: &Regex,
+    items: Items,
+    limits: Limits,
+) -> Result<Items, Stop>
+    requires within { AreIn (S.document source.now) items }
+    requires built { IsBuilt (chars (regex_source regex.now)) regex.now }
+    ensures items { IfOk result (λ v. items_of v ≡ step_items (S.document source.now) (spec.search (chars (regex_source regex.now))) (items_of items)) }
+    ensures passes { IfOk result (λ v. step_passes limits (S.document source.now) (spec.search (chars (regex_source regex.now))) (items_of items) ≡ []) }
+    ensures within { IfOk result (AreIn (S.document source.now)) }
+    ensures few { IfOk result (λ v. length (items_of v) ≤ limits.items) }
+    ensures stop { IfErr result (λ s. IsFirst s (step_passes limits (S.document source.now) (spec.search (chars (regex_source regex.now))) (items_of items))) }
+{
+    let texts = texts_of(alloc, source, items, limits.bytes)?;
+    Ok(Items::Texts(search_texts(alloc, regex, texts.as_slice(), limits)?))
+}
+
+/// What a step gives.
+fn give<S: Axes>(
+    alloc: Global,
+    source: &S,
+    step: &Ready,
+    items: Items,
+    limits: Limits,
+) -> Result<Items, Stop>
+    requires usable { IsUsable step.now }
+    requires within { AreIn (S.document source.now) items }
+    requires few { length (items_of items) ≤ limits.items }
+    ensures items { IfOk result (λ v. items_of v ≡ step_items (S.document source.now) (action_of step.now) (items_of items)) }
+    ensures passes { IfOk result (λ v. step_passes limits (S.document source.now) (action_of step.now) (items_of items) ≡ []) }
+    ensures within { IfOk result (AreIn (S.document source.now)) }
+    ensures few { IfOk result (λ v. length (items_of v) ≤ limits.items) }
+    ensures stop { IfErr result (λ s. IsFirst s (step_passes limits (S.document source.now) (action_of step.now) (items_of items))) }
+{
+    match step {
+        Ready::Query(query) => select(alloc, source, query, &items, limits),
+        Ready::Match(regex) => search(alloc, source, regex, items, limits),
+    }
+}
+
+/// What the last step gives, from the row x on.
+fn give_all<S: Axes>(
+    alloc: Global,
+    source: &S,
+    steps: &[Ready],
+    x: u32,
+    limits: Limits,
+) -> Result<Items, Stop>
+    requires usable { AreUsable steps.now }
+    requires within { x < length (S.document source.now) }
+    requires some { 0 < limits.items }
+    ensures items { IfOk result (λ v. items_of v ≡ last_items (S.document source.now) (node x ∷ []) (map action_of steps.now)) }
+    ensures passes { IfOk result (λ v. steps_pass limits (S.document source.now) (node x ∷ []) (map action_of steps.now) ≡ []) }
+    ensures within { IfOk result (AreIn (S.document source.now)) }
+    ensures stop { IfErr result (λ s. IsFirst s (steps_pass limits (S.document source.now) (node x ∷ []) (map action_of steps.now))) }
+{
+    let mut rows = Vec::new(alloc);
+    rows.push(x)?;
+    let mut items = Items::Rows(rows);
+    for step in steps {
+        items = give(alloc, source, step, items, limits)?;
+    }
+    Ok(items)
+}
+
+/// The texts that are given at the end.
+fn given_texts<S: Axes>(
+    alloc: Global,
+    source: &S,
+    items: Items,
+    end: Take,
+    limits: Limits,
+) -> Result<Vec<Txt>, Stop>
+    requires { AreIn (S.document source.now) items }
+    ensures texts { IfOk result (λ v. v.items ≡ taken_texts end (item_texts (S.document source.now) (items_of items))) }
+    ensures passes { IfOk result (λ v. end_passes limits (S.document source.now) v.items ≡ []) }
+    ensures stop { IfErr result (λ s. IsFirst s (end_passes limits (S.document source.now) (taken_texts end (item_texts (S.document source.now) (items_of items))))) }
+{
+    match end {
+        Take::All => texts_of(alloc, source, items, limits.bytes),
+        Take::First => texts_of(alloc, source, items.first(), limits.bytes),
+    }
+}
+
+/// The value that texts are.
+fn value_of(texts: Vec<Txt>, end: Take) -> FieldValue
+    ensures { result ≡ spec.value_of end texts.items }
+{
+    match end {
+        Take::All => FieldValue::All(Seq::from_vec(texts)),
+        Take::First => FieldValue::One(texts.into_iter().next()),
+    }
+}
+
+/// The value of steps from the row x on.
+pub fn run_steps<S: Axes>(
+    alloc: Global,
+    source: &S,
+    steps: &[Ready],
+    end: Take,
+    x: u32,
+    limits: Limits,
+) -> Result<FieldValue, Stop>
+    requires usable { AreUsable steps.now }
+    requires within { x < length (S.document source.now) }
+    requires some { 0 < limits.items }
+    ensures value { IfOk result (λ v. v ≡ answer limits (S.document source.now) x (map action_of steps.now) end) }
+    ensures stop { IfErr result (λ s. IsStopOf s (answer limits (S.document source.now) x (map action_of steps.now) end)) }
+{
+    let items = give_all(alloc, source, steps, x, limits)?;
+    let texts = given_texts(alloc, source, items, end, limits)?;
+    Ok(value_of(texts, end))
+}
