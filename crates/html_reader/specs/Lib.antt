@@ -4,6 +4,8 @@ pub mod Forest
 pub mod Kept
 pub mod Laws
 pub mod Machine
+pub mod PageLaws
+pub mod Pages
 pub mod Parents
 pub mod Pieces
 pub mod Places

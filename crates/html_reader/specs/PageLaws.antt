@@ -1,0 +1,30 @@
+-- What holds of all pages, and of all words.
+use Rattle.std.specs.Prelude.{◌≡◌, ℕ, List, Option, ◌⊎◌}
+use Rattle.text_base.specs.declared.reasons.PageReason.{PageReason}
+use Rattle.doc_model.specs.Document.{Document}
+use Rattle.html_reader.specs.Tokens.{Tok}
+use Rattle.html_reader.specs.Places.{Place, place_marks}
+use Rattle.html_reader.specs.Words.{tokens_of, IsFull}
+use Rattle.html_reader.specs.Pages.{BuildsPage, IsPageFault}
+
+-- a page builds one document at most
+abbrev pub OnePageDocument : Type 0
+OnePageDocument = (page : List ℕ) (doc other : Document) → BuildsPage page doc → BuildsPage page other → doc ≡ other
+
+-- and has one fault at most
+abbrev pub OnePageFault : Type 0
+OnePageFault =
+    (page : List ℕ) (a b : PageReason) (at place : ℕ) → IsPageFault page a at → IsPageFault page b place → (a ≡ b) × (at ≡ place)
+
+abbrev pub NeverBothOfPage : Type 0
+NeverBothOfPage = (page : List ℕ) (doc : Document) (reason : PageReason) (at : ℕ) → BuildsPage page doc → IsPageFault page reason at → ⊥
+
+-- and has one or the other
+abbrev pub PageAnswer : List ℕ → Type 0
+PageAnswer page = ((doc : Document) × BuildsPage page doc) ⊎ ((reason : PageReason) × (at : ℕ) × IsPageFault page reason at)
+
+-- tokens have one full word at most
+abbrev pub OneWord : Type 0
+OneWord =
+    (tokens : List Tok) (next : Option Tok) (p q : Place) → tokens_of (place_marks p) ≡ tokens → tokens_of (place_marks q) ≡ tokens
+    → IsFull (place_marks p) next → IsFull (place_marks q) next → place_marks p ≡ place_marks q
