@@ -8,3 +8,4 @@ pub mod Reader
 pub mod Reading
 pub mod Shapes
 pub mod Terms
+pub mod Typed

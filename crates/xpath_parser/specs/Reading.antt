@@ -21,3 +21,8 @@ pub record ReadsAs (text : Text) (x : Expr) : Type 0 where
   pub reads : ReadsWhole (terms lexemes) x
   pub accepted : list_any is_refused (terms lexemes) ≡ false
   pub typed : is_well_typed x ≡ true
+
+-- some text reads as the expression
+pub record IsReadable (x : Expr) : Type 0 where
+  pub text : Text
+  pub reads : ReadsAs text x

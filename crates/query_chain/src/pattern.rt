@@ -1,0 +1,29 @@
+//! Patterns that are built.
+ghost use Rattle.std.specs.Prelude.{◌≡◌, IfOk, IsErrOf, None};
+ghost use Rattle.std.specs.Str.{chars};
+ghost use Rattle.query_chain.specs.Patterns.{pattern_of};
+ghost use Rattle.query_chain.specs.Built.{IsBuilt};
+
+use regex::{Error, Regex};
+use std::alloc::Global;
+
+/// Why a pattern was not built.
+#[derive(Clone, Copy, Debug, PartialEq, Eq)]
+pub enum BuildFault {
+    /// It is outside the grammar, or nests too deep.
+    Pattern,
+    /// No memory was found, or the pattern takes more of it than `regex` allows.
+    Memory,
+}
+
+/// Builds a pattern.
+pub fn build(alloc: Global, source: &str) -> Result<Regex, BuildFault>
+    ensures built { IfOk result (IsBuilt (chars source.now)) }
+    ensures refused { IsErrOf result BuildFault.Pattern → pattern_of (chars source.now) ≡ None }
+{
+    match Regex::new(alloc, source) {
+        Ok(regex) => Ok(regex),
+        Err(Error::Syntax(_)) => Err(BuildFault::Pattern),
+        Err(_) => Err(BuildFault::Memory),
+    }
+}
