@@ -1,4 +1,4 @@
-pub mod Built
-pub mod Found
+pub mod Chains
 pub mod Items
+pub mod Laws
 pub mod Patterns

@@ -1,0 +1,175 @@
+-- The value of a field on a document: what its steps give, one after the other, within limits.
+use Rattle.std.specs.Prelude.{◌≡◌, ◌⊎◌, ℕ, Bool, true, false, not, nat_lt, is_some, List, [], ◌∷◌, ◌++◌, map, flat_map, length, take, Some, None, encode_utf8_all}
+use Rattle.std.specs.List.{list_any}
+use Rattle.doc_model.specs.Document.{Document, row}
+use Rattle.doc_model.specs.declared.Kind.{Kind}
+use Rattle.doc_model.specs.declared.Kind.TheVariants.{Root, Element, Attribute, Text, Comment}
+use Rattle.markup_out.specs.Markup.{markup}
+use Rattle.xpath_values.specs.declared.value.Value.{Value}
+use Rattle.xpath_values.specs.declared.value.Value.TheVariants.{Nodes, Num, Str, Bool as Truth}
+use Rattle.xpath_values.specs.Numbers.{num_text}
+use Rattle.xpath_values.specs.Strings.{text_of_bool}
+use Rattle.xpath_parser.specs.declared.expression.Expr.{Expr}
+use Rattle.xpath_parser.specs.Denote.{denote}
+use Rattle.xpath_parser.specs.Reading.{ReadsAs}
+use Rattle.query_script.specs.declared.script.Chain.{Chain}
+use Rattle.query_script.specs.declared.script.Chain.TheVariants as chain
+use Rattle.query_script.specs.declared.script.ChainStep.{ChainStep}
+use Rattle.query_script.specs.declared.script.ChainStep.TheVariants as step
+use Rattle.query_script.specs.declared.script.Field.{Field}
+use Rattle.query_script.specs.declared.script.FieldValue.{FieldValue}
+use Rattle.query_script.specs.declared.script.FieldValue.TheVariants as value
+use Rattle.query_script.specs.declared.script.Reason.{Reason}
+use Rattle.query_script.specs.declared.script.Reason.TheVariants as reason
+use Rattle.query_script.specs.declared.script.Take.{Take}
+use Rattle.query_script.specs.declared.script.Take.TheVariants as taken
+use Rattle.query_chain.specs.declared.limits.Limits.{Limits}
+use Rattle.query_chain.specs.Items.{Item, node, text, strings, bytes_of}
+use Rattle.query_chain.specs.Patterns.{pattern_of, found_texts}
+
+-- ---- what a step does
+
+-- An expression, whose value is taken at each item, or the characters of a pattern, which is searched in each item's text.
+pub data Action : Type 0 where
+  select : Expr → Action
+  search : List ℕ → Action
+
+abbrev pub is_pattern : List ℕ → Bool
+is_pattern source = is_some (pattern_of source)
+
+-- the step does this: its text reads as the expression, or its characters are that pattern
+abbrev pub IsAction : ChainStep → Action → Type 0
+IsAction (step.Query query) (select x) = ReadsAs (encode_utf8_all query) x
+IsAction (step.Query query) (search source) = ⊥
+IsAction (step.Match pattern) (select x) = ⊥
+IsAction (step.Match pattern) (search source) = (source ≡ pattern) × (is_pattern pattern ≡ true)
+
+-- each step does the action at its place
+abbrev pub AreActions : List ChainStep → List Action → Type 0
+AreActions [] [] = Unit {0}
+AreActions [] (a ∷ actions) = ⊥
+AreActions (s ∷ steps) [] = ⊥
+AreActions (s ∷ steps) (a ∷ actions) = IsAction s a × AreActions steps actions
+
+-- the step searches for what is no pattern
+abbrev pub is_refused : ChainStep → Bool
+is_refused (step.Query query) = false
+is_refused (step.Match pattern) = not (is_pattern pattern)
+
+-- ---- items, and what a step makes of them
+
+-- the items that a value is: its rows in document order, or one text
+abbrev pub value_items : Value → List Item
+value_items (Nodes rows) = map node rows
+value_items (Num n) = text (num_text n) ∷ []
+value_items (Str s) = text s ∷ []
+value_items (Truth b) = text (text_of_bool b) ∷ []
+
+-- the text of a row: the value of an attribute, the content of a text, and else the markup
+abbrev pub row_text : Kind → Document → ℕ → List ℕ
+row_text Root doc x = markup doc x
+row_text Element doc x = markup doc x
+row_text Attribute doc x = (row doc x).text
+row_text Text doc x = (row doc x).text
+row_text Comment doc x = markup doc x
+
+module _ (doc : Document) where
+  abbrev pub item_text : Item → List ℕ
+  item_text (node x) = row_text (row doc x).kind doc x
+  item_text (text t) = t
+
+  abbrev pub item_texts : List Item → List (List ℕ)
+  item_texts items = map item_text items
+
+  -- What an item gives: the value of the expression there, at position 1 of 1, or what the pattern finds in its text. No
+  -- expression meets a text, since queries stand only after queries that give nodes.
+  abbrev pub gives : Action → Item → List Item
+  gives (select x) (node r) = value_items (denote doc x (record { row = r; position = 1; size = 1 }))
+  gives (select x) (text t) = []
+  gives (search source) item = map text (found_texts source (item_text item))
+
+  -- what a step gives: what the items give, joined in order, with their repeats
+  abbrev pub step_items : Action → List Item → List Item
+  step_items a items = flat_map (gives a) items
+
+  -- what the last step gives
+  abbrev pub last_items : List Item → List Action → List Item
+  last_items items [] = items
+  last_items items (a ∷ actions) = last_items (step_items a items) actions
+
+  -- the texts that a step searches
+  abbrev pub searched : Action → List Item → List (List ℕ)
+  searched (select x) items = []
+  searched (search source) items = item_texts items
+
+-- ---- the limits
+
+-- the reason, if this limit is passed
+abbrev pub if_passed : Bool → Reason → List Reason
+if_passed true why = why ∷ []
+if_passed false why = []
+
+-- more bytes than there may be
+abbrev pub is_over : Limits → List (List ℕ) → Bool
+is_over limits ts = nat_lt limits.bytes (bytes_of ts)
+
+module _ (limits : Limits) (doc : Document) where
+  -- the limits that a step passes, in the order in which they are looked at: the bytes searched, the number of items, the
+  -- bytes of the items that are texts
+  abbrev pub step_passes : Action → List Item → List Reason
+  step_passes a items =
+      if_passed (is_over limits (searched doc a items)) reason.Output
+      ++ (if_passed (nat_lt limits.items (length (step_items doc a items))) reason.Selection
+      ++ if_passed (is_over limits (strings (step_items doc a items))) reason.Output)
+
+  -- the same for all steps, one after the other
+  abbrev pub steps_pass : List Item → List Action → List Reason
+  steps_pass items [] = []
+  steps_pass items (a ∷ actions) = step_passes a items ++ steps_pass (step_items doc a items) actions
+
+  -- and at the end, for the texts that are given
+  abbrev pub end_passes : List (List ℕ) → List Reason
+  end_passes ts = if_passed (is_over limits ts) reason.Output
+
+-- ---- the value
+
+-- all texts, or the first alone, if there is one
+abbrev pub taken_texts : Take → List (List ℕ) → List (List ℕ)
+taken_texts taken.All ts = ts
+taken_texts taken.First ts = take 1 ts
+
+abbrev pub first_value : List (List ℕ) → FieldValue
+first_value [] = value.One None
+first_value (t ∷ ts) = value.One (Some t)
+
+abbrev pub value_of : Take → List (List ℕ) → FieldValue
+value_of taken.All ts = value.All ts
+value_of taken.First ts = first_value ts
+
+-- the first of these reasons, or this value where there is none
+abbrev pub first_reason : List Reason → FieldValue → FieldValue
+first_reason [] v = v
+first_reason (why ∷ more) v = value.Refused why
+
+-- what the chain of these actions has as its value, from row x
+abbrev pub answer : Limits → Document → ℕ → List Action → Take → FieldValue
+answer limits doc x actions end =
+    let start = node x ∷ [] in
+    let given = taken_texts end (item_texts doc (last_items doc start actions)) in
+    first_reason (steps_pass limits doc start actions ++ end_passes limits doc given) (value_of end given)
+
+-- The value of a chain from row x: its own reason, if it has one; Pattern where a step searches for what is no pattern; and
+-- else what its steps do.
+abbrev pub IsChainValue : Limits → Document → ℕ → Chain → FieldValue → Type 0
+IsChainValue limits doc x (chain.Refused why) v = v ≡ value.Refused why
+IsChainValue limits doc x (chain.Steps steps end) v =
+    ((list_any is_refused steps ≡ true) × (v ≡ value.Refused reason.Pattern))
+    ⊎ ((actions : List Action) × AreActions steps actions × (v ≡ answer limits doc x actions end))
+
+-- 1,000,000 items after a step, and 8,388,608 bytes of texts
+abbrev pub field_limits : Limits
+field_limits = record { items = 1000000; bytes = 8388608 }
+
+-- the value of a field, from the root node
+abbrev pub IsValue : Document → Field → FieldValue → Type 0
+IsValue doc field v = IsChainValue field_limits doc 0 field.chain v
