@@ -2,10 +2,16 @@
 use Rattle.std.specs.Prelude.{ℕ, ◌%◌, List, [], ◌∷◌, ◌++◌, codes, decimal, flat_map}
 use Rattle.std.specs.List.{range_with_len, join_with_byte}
 
--- the item of this number: its class counts by seven
+-- the start tag of the item of this number, with a class that counts by seven
+abbrev pub item_tag : ℕ → List ℕ
+item_tag i = codes "<li class=\"k" ++ (decimal (i % 7) ++ (codes "\" id=\"n" ++ (decimal i ++ codes "\">")))
+
+-- its link
+abbrev pub item_link : ℕ → List ℕ
+item_link i = codes "<a href=\"/p/" ++ (decimal i ++ (codes "\">item " ++ (decimal i ++ codes "</a>")))
+
 abbrev pub bulk_item : ℕ → List ℕ
-bulk_item i =
-    codes "<li class=\"k" ++ (decimal (i % 7) ++ (codes "\" id=\"n" ++ (decimal i ++ (codes "\"><a href=\"/p/" ++ (decimal i ++ (codes "\">item " ++ (decimal i ++ codes "</a>")))))))
+bulk_item i = item_tag i ++ item_link i
 
 -- the page with the items from 1 to this number, without a line break
 abbrev pub bulk_text : ℕ → List ℕ

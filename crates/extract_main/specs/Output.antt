@@ -6,8 +6,8 @@ use Rattle.io_edges.specs.Pages.{page, Lacks}
 use Rattle.io_edges.specs.Sink.{grown}
 use Rattle.extract_main.specs.Answers.{Answer, bytes_of, refuses}
 use Rattle.extract_main.specs.Plans.{Plan, alone, over}
-use Rattle.extract_main.specs.declared.top.Status.{Status}
-use Rattle.extract_main.specs.declared.top.Status.TheVariants.{Done, Refused, Memory, ReadFault}
+use Rattle.extract_main.specs.declared.status.Status.{Status}
+use Rattle.extract_main.specs.declared.status.Status.TheVariants.{Done, Refused, Memory, ReadFault}
 
 -- the pages of a run
 abbrev pub names_of : Plan → List (List ℕ)

@@ -17,10 +17,13 @@ use Rattle.extract_main.specs.Answers.{Answer}
 abbrev pub most_page : ℕ
 most_page = 4194304
 
--- a page with more bytes is refused at the first byte too many
+-- why a page with more bytes is refused: the place is that of the first byte too many
+abbrev pub too_long : PageFault
+too_long = record { reason = TooLong; at = most_page }
+
 pub record IsTooLong (bytes : List ℕ) (fault : PageFault) : Type 0 where
   pub long : most_page < length bytes
-  pub is : fault ≡ record { reason = TooLong; at = most_page }
+  pub is : fault ≡ too_long
 
 -- the bytes are no text, and the place is in the bytes as they were read
 pub record IsNoText (bytes : List ℕ) (fault : PageFault) : Type 0 where
