@@ -6,13 +6,9 @@ use Rattle.std.proofs.lemmas.Slice.Eq.{bytes_eq-Decides}
 use Rattle.text_base.proofs.Text.{same_bytes}
 use Rattle.html_reader.specs.Tokens.{Attr}
 use Rattle.html_reader.specs.Kept.{IsNew, AreKept}
+use Rattle.html_reader.specs.Keeping.{HaveTexts}
 use Rattle.html_reader.specs.Contents.{without, kept}
 use Rattle.html_reader.proofs.PieceLemmas.{some_chars}
-
--- the names are texts
-abbrev pub HaveTexts : List Attr → Type 0
-HaveTexts [] = Unit {0}
-HaveTexts (a ∷ attrs) = IsUtf8 a.name × HaveTexts attrs
 
 -- the names that are written are not empty
 abbrev pub HaveNames : List (List ℕ × List ℕ) → Type 0
@@ -54,7 +50,7 @@ new_after name (a ∷ attrs) u h = by_test (bytes_eq a.name name) refl (new_afte
     by_test true is k = k
     by_test false is k = ((λ e. true_false ((bytes_eq-Decides a.name name).1 (same_bytes a.name name h.0 u e)) is), k)
 
-lower_some : (name : List ℕ) → name ≢ [] → str_to_ascii_lowercase name ≢ []
+pub lower_some : (name : List ℕ) → name ≢ [] → str_to_ascii_lowercase name ≢ []
 lower_some [] h e = h refl
 lower_some (c ∷ cs) h e = cc
 

@@ -13,7 +13,7 @@ pub document_law : OneDocument
 document_law tokens doc other h k = one_document tokens doc other h k
 
 -- the end is refused only where an element is open or there was no root element
-end_goes : (tags : List Tag) (rooted : Bool) (reason : PageReason) → tags ≡ [] → rooted ≡ true → RefusesNext tags rooted None reason → ⊥
+pub end_goes : (tags : List Tag) (rooted : Bool) (reason : PageReason) → tags ≡ [] → rooted ≡ true → RefusesNext tags rooted None reason → ⊥
 end_goes tags rooted Unclosed none some h = h none
 end_goes tags rooted NoRoot none some h = true_false some h.1
   where

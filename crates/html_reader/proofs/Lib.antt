@@ -16,3 +16,10 @@ pub mod PieceLemmas
 pub mod ReadLemmas
 pub mod ContentLemmas
 pub mod KeptLemmas
+pub mod MoveLemmas
+pub mod StandLemmas
+pub mod SpellLemmas
+pub mod FaultLemmas
+pub mod PageReadings
+pub mod KeepLemmas
+pub mod LoopLemmas

@@ -23,12 +23,12 @@ same_front (t ∷ a) b c e = same_front a b c (tail e)
     tail : {x y : Tok} {v w : List Tok} → x ∷ v ≡ y ∷ w → v ≡ w
     tail e = cc
 
-tail_tokens : (before ts : List Tok) (p q : Place) (tail : List Mark) → tokens_of (place_marks p) ≡ before → tokens_of (place_marks q) ≡ before ++ ts → place_marks q ≡ place_marks p ++ tail → tokens_of tail ≡ ts
+pub tail_tokens : (before ts : List Tok) (p q : Place) (tail : List Mark) → tokens_of (place_marks p) ≡ before → tokens_of (place_marks q) ≡ before ++ ts → place_marks q ≡ place_marks p ++ tail → tokens_of tail ≡ ts
 tail_tokens before ts p q tail e f is =
     same_front before (tokens_of tail) ts
     (ap (λ x. x ++ tokens_of tail) (sym e) ∙ sym (tokens_of-append (place_marks p) tail) ∙ ap tokens_of (sym is) ∙ f)
 
-no_more : (w : List Mark) → tokens_of w ≡ [] → begins_shut w ≡ false → w ≡ []
+pub no_more : (w : List Mark) → tokens_of w ≡ [] → begins_shut w ≡ false → w ≡ []
 no_more [] h k = refl
 no_more (shut ∷ w) h k = cc
 no_more (token t ∷ w) h k = cc
@@ -50,7 +50,7 @@ pub record Begins (t : Tok) (w : List Mark) : Type 0 where
   pub rest : List Mark
   pub is : w ≡ token t ∷ rest
 
-begins : (t : Tok) (ts : List Tok) (w : List Mark) → tokens_of w ≡ t ∷ ts → begins_shut w ≡ false → Begins t w
+pub begins : (t : Tok) (ts : List Tok) (w : List Mark) → tokens_of w ≡ t ∷ ts → begins_shut w ≡ false → Begins t w
 begins t ts [] h k = cc
 begins t ts (shut ∷ w) h k = cc
 begins t ts (token u ∷ w) h k = record { rest = w; is = ap (λ x. token x ∷ w) (head h) }

@@ -1,6 +1,7 @@
 pub mod Children
 pub mod Contents
 pub mod Forest
+pub mod Keeping
 pub mod Kept
 pub mod Laws
 pub mod Machine

@@ -1,6 +1,7 @@
 -- What holds of all pages, and of all words.
 use Rattle.std.specs.Prelude.{◌≡◌, ℕ, List, Option, ◌⊎◌}
 use Rattle.text_base.specs.declared.reasons.PageReason.{PageReason}
+use Rattle.text_base.specs.declared.reasons.PageReason.TheVariants.{TooLong, NotUtf8, Nul, BadTag, BadAttribute, BadComment, BadMarkup, StrayEnd, Unclosed, TextOutside, SecondRoot, NoRoot, Deep, Memory}
 use Rattle.doc_model.specs.Document.{Document}
 use Rattle.html_reader.specs.Tokens.{Tok}
 use Rattle.html_reader.specs.Places.{Place, place_marks}
@@ -22,6 +23,27 @@ NeverBothOfPage = (page : List ℕ) (doc : Document) (reason : PageReason) (at :
 -- and has one or the other
 abbrev pub PageAnswer : List ℕ → Type 0
 PageAnswer page = ((doc : Document) × BuildsPage page doc) ⊎ ((reason : PageReason) × (at : ℕ) × IsPageFault page reason at)
+
+-- a reason that a page's text can give
+abbrev pub IsPageReason : PageReason → Type 0
+IsPageReason TooLong = ⊥
+IsPageReason NotUtf8 = ⊥
+IsPageReason Nul = ⊥
+IsPageReason BadTag = Unit {0}
+IsPageReason BadAttribute = Unit {0}
+IsPageReason BadComment = Unit {0}
+IsPageReason BadMarkup = Unit {0}
+IsPageReason StrayEnd = Unit {0}
+IsPageReason Unclosed = Unit {0}
+IsPageReason TextOutside = Unit {0}
+IsPageReason SecondRoot = Unit {0}
+IsPageReason NoRoot = Unit {0}
+IsPageReason Deep = Unit {0}
+IsPageReason Memory = ⊥
+
+-- a page is refused for one of these reasons, none of which is want of memory
+abbrev pub PageReasons : Type 0
+PageReasons = (page : List ℕ) (reason : PageReason) (at : ℕ) → IsPageFault page reason at → IsPageReason reason
 
 -- tokens have one full word at most
 abbrev pub OneWord : Type 0

@@ -1,5 +1,7 @@
-//! What holds of all lists of tokens.
+//! What holds of all lists of tokens, and of all pages.
+ghost use Rattle.std.specs.Prelude.{ℕ, List};
 ghost use Rattle.html_reader.specs.Laws.{OneDocument, NeverBoth, OneFault};
+ghost use Rattle.html_reader.specs.PageLaws.{OnePageDocument, OnePageFault, NeverBothOfPage, PageReasons, PageAnswer, OneWord};
 
 /// Tokens build one document at most.
 #[tactic(auto, using(crate::proofs::LawLemmas::document_law))]
@@ -17,4 +19,19 @@ pub fn never_both()
 #[tactic(auto, using(crate::proofs::LawLemmas::fault_law))]
 pub fn one_fault()
     ensures { OneFault }
+{}
+
+/// A page builds one document or has one fault, and never both. Which of the two, and what it is, the lemma
+/// `PageReadings::a_reading` constructs.
+pub fn one_page_reading()
+    ensures document { OnePageDocument }
+    ensures fault { OnePageFault }
+    ensures apart { NeverBothOfPage }
+    ensures reasons { PageReasons }
+    ensures either { (page : List ℕ) → PageAnswer page }
+{}
+
+/// Tokens have one full word at most.
+pub fn one_full_word()
+    ensures { OneWord }
 {}

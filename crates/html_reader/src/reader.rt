@@ -27,7 +27,7 @@ use text_base::{NoMemory, PageFault, PageReason};
 
 /// Reads tokens into a tree.
 #[derive(Drop)]
-struct Reader<'p, G> {
+pub struct Reader<'p, G> {
     alloc: Global,
     tags: Vec<StartTag<'p>>,
     rooted: bool,
@@ -305,7 +305,7 @@ impl<'p, G: Grow<'p> + Drop> Reader<'p, G> {
     }
 
     /// Before the first token.
-    fn new(alloc: Global, grow: G) -> Reader<'p, G>
+    pub fn new(alloc: Global, grow: G) -> Reader<'p, G>
         requires { G.growing grow ≡ root_alone }
         ensures led { LeadsTo [] (the_state result.tags.items result.rooted (G.growing result.grow) (owned_bytes result.waits)) }
         ensures size { size (the_state result.tags.items result.rooted (G.growing result.grow) (owned_bytes result.waits)) ≡ 1 }
@@ -320,7 +320,7 @@ impl<'p, G: Grow<'p> + Drop> Reader<'p, G> {
     }
 
     /// Reads the next token.
-    fn take(&mut self, token: Token<'p>) -> Result<(), PageFault>
+    pub fn take(&mut self, token: Token<'p>) -> Result<(), PageFault>
         requires led { IsLed (the_state self.old.tags.items self.old.rooted (G.growing self.old.grow) (owned_bytes self.old.waits)) }
         requires kept { IsKept (tok_of token) }
         requires room { size (the_state self.old.tags.items self.old.rooted (G.growing self.old.grow) (owned_bytes self.old.waits)) + most_rows (tok_of token) + 1 < 2 ^ 32 }
@@ -333,7 +333,7 @@ impl<'p, G: Grow<'p> + Drop> Reader<'p, G> {
     }
 
     /// Reads the end of the text, which is its place.
-    fn finish(mut self, end: usize) -> Result<G::Done, PageFault>
+    pub fn finish(mut self, end: usize) -> Result<G::Done, PageFault>
         requires led { IsLed (the_state self.tags.items self.rooted (G.growing self.grow) (owned_bytes self.waits)) }
         requires room { size (the_state self.tags.items self.rooted (G.growing self.grow) (owned_bytes self.waits)) + 1 < 2 ^ 32 }
         ensures ok { IfOk result (λ done. AllBuild (the_state self.entry.tags.items self.entry.rooted (G.growing self.entry.grow) (owned_bytes self.entry.waits)) (G.Done.document done)) }

@@ -1,0 +1,78 @@
+//! What the tree takes of a token.
+ghost use Rattle.std.specs.Prelude.{◌≡◌, IfOk};
+ghost use Rattle.html_lexer.specs.Tokens.{view, name_after};
+ghost use Rattle.html_reader.specs.Contents.{takes_newline};
+ghost use Rattle.html_reader.specs.States.{tok_of, from_of, IsKept};
+ghost use Rattle.html_reader.specs.Pages.{Means};
+ghost use Rattle.html_reader.specs.Keeping.{IsReadable, begin_of};
+
+use crate::contents::{content, lower_name};
+use crate::keeping::keep_attrs;
+use crate::token::{StartTag, Token};
+use html_lexer::Token as Lexed;
+use std::alloc::Global;
+use text_base::NoMemory;
+
+/// Whether a text directly behind a start tag of this name loses a first newline.
+#[tactic(auto, unfolding(crate::specs::Contents::newline_names))]
+fn takes_newline(name: &str) -> bool
+    ensures { result ≡ takes_newline name.now }
+{
+    "pre".eq_ignore_ascii_case(name)
+        || "textarea".eq_ignore_ascii_case(name)
+        || "listing".eq_ignore_ascii_case(name)
+}
+
+/// The name of a start tag as it is written, and the empty text for another token.
+pub fn name_after<'p>(token: Lexed<'p>) -> &'p str
+    ensures { result.now ≡ name_after (view token.entry) }
+{
+    match token {
+        Lexed::Start { name, .. } => name,
+        _ => "",
+    }
+}
+
+/// What the tree takes of a token. `before` is the name of the start tag directly before it, and empty where no start
+/// tag stands there.
+pub fn token_of<'p>(alloc: Global, token: Lexed<'p>, before: &str) -> Result<Token<'p>, NoMemory>
+    requires { IsReadable (view token) }
+    ensures means { IfOk result (λ t. Means before.now (view token.entry) (tok_of t)) }
+    ensures kept { IfOk result (λ t. IsKept (tok_of t)) }
+    ensures from { IfOk result (λ t. from_of t ≡ begin_of (view token.entry)) }
+{
+    match token {
+        Lexed::Start {
+            from,
+            to: _,
+            name,
+            attrs,
+            slash,
+        } => {
+            let name = lower_name(alloc, name)?;
+            let attrs = keep_attrs(alloc, attrs)?;
+            Ok(Token::Start {
+                from,
+                tag: StartTag { name, attrs, slash },
+            })
+        }
+        Lexed::End { from, to: _, name } => {
+            let name = lower_name(alloc, name)?;
+            Ok(Token::End { from, name })
+        }
+        Lexed::Text {
+            from,
+            to: _,
+            raw,
+            refs,
+        } => {
+            let content = content(alloc, raw, refs, takes_newline(before))?;
+            Ok(Token::Text { from, content })
+        }
+        Lexed::Comment { from, to: _, text } => Ok(Token::Comment {
+            from,
+            content: text,
+        }),
+        Lexed::Doctype { from, to: _ } => Ok(Token::Doctype { from }),
+    }
+}
