@@ -1,5 +1,5 @@
--- The items of the bulk page, one after the other.
-use Rattle.std.proofs.Common.{◌≡◌, refl, ℕ, zero, suc, ◌+◌, List, [], ◌++◌, ap, sym, ◌∙◌, append_assoc, arith, add-one, add-zero, append-nil}
+-- The bulk page, piece by piece.
+use Rattle.std.proofs.Common.{◌≡◌, refl, ℕ, zero, suc, ◌+◌, List, [], ◌++◌, ap, sym, ◌∙◌, append_assoc, arith, add-one, add-zero, append-nil, Result, OnOk, Ok, Err}
 use Rattle.std.specs.Prelude.{flat_map}
 use Rattle.std.specs.List.{range_with_len}
 use Rattle.extract_main.specs.Bulk.{bulk_item}
@@ -20,3 +20,11 @@ item_more old new front i h k =
       k ∙ ap (λ t. t ++ bulk_item (i + 1)) h ∙ append_assoc front (flat_map bulk_item (range_with_len 1 i)) (bulk_item (i + 1))
       ∙ ap (λ j. front ++ (flat_map bulk_item (range_with_len 1 i) ++ bulk_item j)) next
     )
+
+-- five pieces, the last pushed last
+pub five : {V E : Type 0} (r : Result V E) (was a b c d e one two three four now : List ℕ) → one ≡ was ++ a → two ≡ one ++ b → three ≡ two ++ c → four ≡ three ++ d → OnOk r (now ≡ four ++ e)
+    → OnOk r (now ≡ was ++ (a ++ (b ++ (c ++ (d ++ e)))))
+five (Ok v) was a b c d e one two three four now h k l m last =
+    last ∙ ap (λ t. t ++ e) (m ∙ ap (λ t. t ++ d) (l ∙ ap (λ t. t ++ c) (k ∙ ap (λ t. t ++ b) h)))
+    ∙ append_assoc (((was ++ a) ++ b) ++ c) d e ∙ append_assoc ((was ++ a) ++ b) c (d ++ e) ∙ append_assoc (was ++ a) b (c ++ (d ++ e)) ∙ append_assoc was a (b ++ (c ++ (d ++ e)))
+five (Err x) was a b c d e one two three four now h k l m last = last

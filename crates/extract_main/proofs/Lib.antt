@@ -4,9 +4,10 @@ pub mod Counts
 pub mod Forms
 pub mod OutputLemmas
 pub mod PageAnswers
+pub mod PageBytes
 pub mod PageReadings
 pub mod Plans
 pub mod Readers
 pub mod Readings
-pub mod Walk
 pub mod ValueLemmas
+pub mod Walk

@@ -1,6 +1,8 @@
 -- The line of a page that was read, and what was written of it.
 use Rattle.std.proofs.Common.{◌≡◌, refl, ℕ, List, length, Option, Some, None, inl, sym, ◌∙◌, ap, ap₂, subst}
-use Rattle.std.specs.Prelude.{IfSome, Bool, true}
+use Rattle.std.specs.Prelude.{IfSome, IfOk, Result, Ok, Bool, true}
+use Rattle.text_base.specs.declared.memory.NoMemory.{NoMemory}
+use Rattle.extract_main.specs.declared.answers.Line.{Line}
 use Rattle.io_edges.specs.Pages.{page, Has, IsTooLong}
 use Rattle.io_edges.specs.Sink.{grown, TakesPart}
 use Rattle.query_script.specs.declared.script.Field.{Field}
@@ -40,3 +42,7 @@ line_part fields line makes None name old new a h t = tt
 line_part fields line makes (Some pages) name old new a h t =
     let same : a ≡ line name h.0 = one_page_line fields name h.0 a (line name h.0) h.1.1 (makes name h.0) in
     (h.0, (h.1.0, subst (λ (x : Answer). TakesPart old (line_bytes x) new) same t))
+
+-- what holds of a made line
+pub ok_at : (made : Result Line NoMemory) (line : Line) (P : Line → Type 0) → made ≡ Ok line → IfOk made P → P line
+ok_at made line P e h = subst (λ (r : Result Line NoMemory). IfOk r P) e h

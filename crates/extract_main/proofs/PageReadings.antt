@@ -1,6 +1,8 @@
 -- A page has one line.
 use Rattle.std.proofs.Common.{◌≡◌, refl, ℕ, List, [], ◌∷◌, length, ap, ap₂, sym, ◌∙◌, subst, arith, inl, inr, ◌⊎◌, ◌≤◌, ◌<◌}
-use Rattle.std.specs.Prelude.{Ok, Err, true}
+use Rattle.std.specs.Prelude.{Result, IfOk, Ok, Err, true}
+use Rattle.std.proofs.lemmas.Result.{IfOk-weaker}
+use Rattle.text_base.specs.declared.memory.NoMemory.{NoMemory}
 use Rattle.std.specs.List.{list_any}
 use Rattle.text_base.specs.declared.reasons.PageFault.{PageFault}
 use Rattle.text_base.specs.Decoding.{decoded}
@@ -10,9 +12,10 @@ use Rattle.query_script.specs.declared.script.Field.{Field}
 use Rattle.query_script.specs.declared.script.FieldValue.{FieldValue}
 use Rattle.query_chain.proofs.Values.{one_value}
 use Rattle.json_lines.specs.Pages.{page_text, refused_text}
-use Rattle.extract_main.specs.Answers.{Answer}
+use Rattle.extract_main.specs.declared.answers.Line.{Line}
+use Rattle.extract_main.specs.Answers.{Answer, answer_of}
 use Rattle.extract_main.specs.OnePage.{IsDocumentLine, IsTextLine, IsFaultLine, IsBuiltLine}
-use Rattle.extract_main.specs.PageLines.{most_page, IsTooLong, IsNoText, IsNoTree, IsPageRefused, IsRefusedPageLine, AreValues, is_refused, IsValuesLine, IsPageLine}
+use Rattle.extract_main.specs.PageLines.{most_page, too_long, IsTooLong, IsNoText, IsNoTree, IsPageRefused, IsRefusedPageLine, AreValues, is_refused, IsValuesLine, IsPageLine}
 use Rattle.extract_main.proofs.Readers.{one_document, one_fault, never_both}
 
 same_fault : (f g : PageFault) → f.reason ≡ g.reason → f.at ≡ g.at → f ≡ g
@@ -72,3 +75,8 @@ line_of_text fields name bytes text a short decodes (inl h) =
     inl (record { fault = h.fault; cause = inr (inr (record { short = short; text = text; decodes = decodes; is = h.is })); line = h.line })
 line_of_text fields name bytes text a short decodes (inr h) =
     inr (record { short = short; text = text; decodes = decodes; doc = h.doc; builds = h.builds; values = h.is.values; are = h.is.are; line = h.is.line })
+
+-- the line of a page with too many bytes
+pub long_line : (fields : List Field) (name bytes : List ℕ) (made : Result Line NoMemory) → most_page < length bytes
+    → IfOk made (λ l. answer_of l ≡ record { text = refused_text name too_long; refused = true }) → IfOk made (λ l. IsPageLine fields name bytes (answer_of l))
+long_line fields name bytes made long h = IfOk-weaker made _ _ (λ l e. inl (record { fault = too_long; cause = inl (record { long = long; is = refl }); line = e })) h

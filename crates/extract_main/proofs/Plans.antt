@@ -80,6 +80,12 @@ one_bulk_line n a b (inr h) (inr k) =
     let same = one_script Html bulk_script k.fields h.fields k.reads h.reads in
     one_page_line h.fields (codes "bulk") (bulk_text n) a b h.line (subst (λ x. IsPageLine x (codes "bulk") (bulk_text n) b) same k.line)
 
+-- the line that was made of the bulk page
+pub bulk_line : (n : ℕ) (fields : List Field) (bytes : List ℕ) (made : Result Line NoMemory) → IsScript Html bulk_script fields → bytes ≡ bulk_text n
+    → IfOk made (λ l. IsPageLine fields (codes "bulk") bytes (answer_of l)) → IfOk made (λ l. IsBulkLine n (answer_of l))
+bulk_line n fields bytes made reads same h =
+    IfOk-weaker made _ _ (λ l is. inr (record { fields = fields; reads = reads; line = subst (λ x. IsPageLine fields (codes "bulk") x (answer_of l)) same is })) h
+
 pub one_plan : PlanLaw
 one_plan (css d s) (alone a) (alone b) h k = ap alone (one_line d s a b h k)
 one_plan (css d s) (alone a) (over m q) h k = absurd k

@@ -169,3 +169,8 @@ pub place_within : (names : List (String Global)) (i : ℕ) → i < length names
 place_within [] i h = h
 place_within (x ∷ names) zero h = omega arith
 place_within (x ∷ names) (suc i) h = let p = place_within names i (omega arith) in omega arith
+
+-- as many names as words
+pub places : (names : List (String Global)) → length (map string_bytes names) ≡ length names
+places [] = refl
+places (x ∷ names) = let p = places names in omega arith

@@ -64,7 +64,6 @@ fn push_item(alloc: Global, page: &mut String, i: u32) -> Result<(), NoMemory>
 }
 
 /// The page with the items from 1 to `n`, in one line: a list whose items have classes, ids and links.
-#[tactic(auto, using(crate::proofs::BulkLemmas::item_more))]
 pub fn bulk_page(alloc: Global, n: u32) -> Result<String, NoMemory>
     requires some { 1 ≤ n }
     requires most { n ≤ 20000 }

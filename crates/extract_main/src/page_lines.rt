@@ -1,6 +1,6 @@
 //! The line of a page, from its bytes.
 ghost use Rattle.std.specs.Prelude.{◌≡◌, ◌≢◌, ◌≤◌, length, IsOk, IfOk, true};
-ghost use Rattle.std.specs.List.{AllByRecursion};
+ghost use Rattle.std.specs.List.{AllByRecursion, list_any};
 ghost use Rattle.query_script.specs.Ordered.{IsOrdered};
 ghost use Rattle.json_lines.specs.Pages.{refused_text};
 ghost use Rattle.extract_main.specs.Answers.{answer_of};
@@ -68,13 +68,20 @@ fn is_refused(value: &FieldValue) -> bool
     }
 }
 
+/// Whether one of the values is a refusal.
+fn holds_refusal(values: &[FieldValue]) -> bool
+    ensures { result ≡ list_any is_refused values.now }
+{
+    values.iter().any(is_refused)
+}
+
 /// The line of a document.
 fn document_answer<S: Axes>(alloc: Global, fields: &Seq<Field>, name: &str, source: &S) -> Result<Line, NoMemory>
     requires { AllByRecursion IsOrdered fields.now }
     ensures { IfOk result (λ line. IsDocumentLine fields.now name.now (S.document source.now) (answer_of line)) }
 {
     let values = values_of(alloc, source, fields.as_slice())?;
-    let refused = values.as_slice().iter().any(is_refused);
+    let refused = holds_refusal(values.as_slice());
     let text = page_line(alloc, name, fields, &values)?;
     Ok(Line { text, refused })
 }

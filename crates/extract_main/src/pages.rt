@@ -92,6 +92,8 @@ pub fn write_pages<P: Pages, W: Sink>(
     ensures ended { (line : List ℕ → List ℕ → Answer) → MakesLines fields.now line → Ended (over line (map string_bytes names.now)) (P.told pages.old)
         (P.begun pages.old) (P.begun pages.new) (P.faults pages.old) (P.faults pages.new)
         (W.taken sink.old) (W.taken sink.new) (W.faults sink.old) (W.faults sink.new) result }
+    ensures write_fault { result ≡ Status.WriteFault → Rose (W.faults sink.old) (W.faults sink.new) }
+    ensures other { result ≢ Status.Usage }
 {
     let mut refused = false;
     for name in names {

@@ -28,6 +28,7 @@ fn write_css<W: Sink>(alloc: Global, dialect: Dialect, selector: &str, sink: &mu
     ensures ended { ForPlan (Some (css dialect selector.now)) (λ plan. (told : Option (List (List ℕ × List ℕ))) → (b : ℕ) → (f : ℕ) →
         Ended plan told b b f f (W.taken sink.old) (W.taken sink.new) (W.faults sink.old) (W.faults sink.new) result) }
     ensures meaning { (list : SelectorList) → Accepts selector.now list → result ≡ Status.Done → IsKept dialect list }
+    ensures write_fault { result ≡ Status.WriteFault → Rose (W.faults sink.old) (W.faults sink.new) }
     ensures other { result ≢ Status.Usage }
 {
     write_alone(css_answer(alloc, dialect, selector), sink)
@@ -39,6 +40,7 @@ fn write_bulk<W: Sink>(alloc: Global, n: u32, sink: &mut W) -> Status
     requires most { n ≤ 20000 }
     ensures ended { ForPlan (Some (bulk n)) (λ plan. (told : Option (List (List ℕ × List ℕ))) → (b : ℕ) → (f : ℕ) →
         Ended plan told b b f f (W.taken sink.old) (W.taken sink.new) (W.faults sink.old) (W.faults sink.new) result) }
+    ensures write_fault { result ≡ Status.WriteFault → Rose (W.faults sink.old) (W.faults sink.new) }
     ensures other { result ≢ Status.Usage }
 {
     write_alone(bulk_answer(alloc, n), sink)
@@ -58,6 +60,7 @@ fn write_run<P: Pages, W: Sink>(
         (P.begun pages.old) (P.begun pages.new) (P.faults pages.old) (P.faults pages.new)
         (W.taken sink.old) (W.taken sink.new) (W.faults sink.old) (W.faults sink.new) result) }
     ensures idle { ForPlan (Some (run dialect script.now (map string_bytes names.now))) (λ plan. names_of plan ≡ [] → pages.new ≡ pages.old) }
+    ensures write_fault { result ≡ Status.WriteFault → Rose (W.faults sink.old) (W.faults sink.new) }
     ensures other { result ≢ Status.Usage }
 {
     match parse_script(alloc, dialect, script) {
@@ -77,6 +80,7 @@ fn write_form<P: Pages, W: Sink>(alloc: Global, form: Form<'_>, pages: &mut P, s
         (P.begun pages.old) (P.begun pages.new) (P.faults pages.old) (P.faults pages.new)
         (W.taken sink.old) (W.taken sink.new) (W.faults sink.old) (W.faults sink.new) result) }
     ensures idle { ForPlan (command_of form.entry) (λ plan. names_of plan ≡ [] → pages.new ≡ pages.old) }
+    ensures write_fault { result ≡ Status.WriteFault → Rose (W.faults sink.old) (W.faults sink.new) }
     ensures meaning { (d : Dialect) → (s : List ℕ) → (list : SelectorList) → command_of form.entry ≡ Some (css d s) → Accepts s list →
         result ≡ Status.Done → IsKept d list }
 {

@@ -1,6 +1,6 @@
-use Rattle.std.proofs.Common.{◌≡◌, arith, string_bytes, map, ◌∙◌}
+use Rattle.std.proofs.Common.{◌≡◌, arith, length, string_bytes, map, ◌∙◌}
 use Rattle.std.specs.Prelude.{◌||◌}
-use Rattle.extract_main.proofs.Walk.{ended_at, ended_done, ended_refused, none_yet, next_page, name_at, place_within}
+use Rattle.extract_main.proofs.Walk.{ended_at, ended_done, ended_refused, none_yet, next_page, name_at, place_within, places}
 use Rattle.extract_main.proofs.pages.write_pages.Goals as goal
 use Rattle.extract_main.proofs.pages.write_pages.Goals.{then-refused, else-refused}
 
@@ -28,7 +28,13 @@ returns-in-Err-clause-ended g c = λ line makes.
     (λ e. cause (cc)) (λ e. c.in-Err.ensures.write_fault (cc)) (λ e. c.in-Err.ensures.other.0 (cc)) (λ e. c.in-Err.ensures.other.1 (cc)) (λ e. c.in-Err.ensures.other.2 (cc))
 
 pub returns-then-refused-2-clause-ended : goal.returns-then-refused-2-clause-ended
-returns-then-refused-2-clause-ended g c = ?
+returns-then-refused-2-clause-ended g c = λ line makes.
+    let here = rw c.if-refused-2.true at (c.loop-name.invariant.written line makes) in
+    let last : c.loop-name.name-index ≡ length (map string_bytes c.args.names.now) = omega (arith, places c.args.names.now) in
+    ended_refused line (g.P.Pages.told c.args.pages.now) (map string_bytes c.args.names.now) c.loop-name.name-index _ _ _ _ _ _ _ _ here last c.loop-name.invariant.begun
 
 pub returns-else-refused-2-clause-ended : goal.returns-else-refused-2-clause-ended
-returns-else-refused-2-clause-ended g c = ?
+returns-else-refused-2-clause-ended g c = λ line makes.
+    let here = rw c.if-refused-2.false at (c.loop-name.invariant.written line makes) in
+    let last : c.loop-name.name-index ≡ length (map string_bytes c.args.names.now) = omega (arith, places c.args.names.now) in
+    ended_done line (g.P.Pages.told c.args.pages.now) (map string_bytes c.args.names.now) c.loop-name.name-index _ _ _ _ _ _ _ _ here last c.loop-name.invariant.begun
