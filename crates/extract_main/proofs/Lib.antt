@@ -1,5 +1,13 @@
+pub mod BulkLemmas
 pub mod Complete
+pub mod Counts
 pub mod Forms
-pub mod LineLemmas
+pub mod OutputLemmas
+pub mod PageAnswers
+pub mod PageBytes
+pub mod PageReadings
 pub mod Plans
+pub mod Readers
 pub mod Readings
+pub mod ValueLemmas
+pub mod Walk

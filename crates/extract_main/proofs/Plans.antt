@@ -1,21 +1,32 @@
--- Each command has exactly one plan.
-use Rattle.std.proofs.Common.{◌≡◌, refl, ℕ, ◌<◌, ◌≤◌, true, false, List, ◌++◌, length, ap, sym, ◌∙◌, subst, Option, Some, arith, inl, inr, ◌⊎◌, codes}
+-- Each command has one plan at most.
+use Rattle.std.proofs.Common.{◌≡◌, refl, ℕ, ◌<◌, ◌≤◌, true, false, List, ◌++◌, length, ap, ap₂, sym, ◌∙◌, subst, Option, Some, None, arith, inl, inr, ◌⊎◌, codes}
 use Rattle.std.specs.Prelude.{Result, IfOk, IsOkAnd, Ok, Err}
+use Rattle.std.proofs.Math.Path.{fun_ext}
 use Rattle.std.proofs.lemmas.Result.{IfOk-weaker}
 use Rattle.text_base.specs.declared.memory.NoMemory.{NoMemory}
+use Rattle.text_base.specs.declared.reasons.ScriptFault.{ScriptFault}
 use Rattle.text_base.specs.declared.reasons.SelectorFault.{SelectorFault}
 use Rattle.text_base.specs.declared.reasons.SelectorFault.TheVariants as fault
-use Rattle.text_base.specs.Reasons.{selector_word}
+use Rattle.text_base.specs.Reasons.{selector_word, script_word}
 use Rattle.css_meaning.specs.declared.selector.Dialect.{Dialect}
+use Rattle.css_meaning.specs.declared.selector.Dialect.TheVariants.{Html}
 use Rattle.css_meaning.specs.declared.selector.SelectorList.{SelectorList}
 use Rattle.css_parser.specs.Selecting.{Accepts}
+use Rattle.css_parser.proofs.SelectingLemmas.{one_reading as one_list}
 use Rattle.css_translate.specs.Printed.{printed}
+use Rattle.query_script.specs.declared.script.Field.{Field}
+use Rattle.query_script.specs.Fields.{IsScript, IsScriptFault}
+use Rattle.json_lines.specs.Lines.{css_text, reason_text}
 use Rattle.extract_main.specs.declared.answers.Line.{Line}
 use Rattle.extract_main.specs.Answers.{Answer, answer_of}
-use Rattle.extract_main.specs.Lines.{css_text, reason_text}
-use Rattle.extract_main.specs.Words.{Command, css}
-use Rattle.extract_main.specs.Output.{IsKept, Plan, alone, over, IsPlan, IsCssLine, IsListLine, IsRefusalLine, IsRefusedFor, most_xpath}
-use Rattle.css_parser.proofs.SelectingLemmas.{one_reading as one_list}
+use Rattle.extract_main.specs.Bulk.{bulk_script, bulk_text}
+use Rattle.extract_main.specs.CssLines.{IsKept, IsCssLine, IsListLine, IsRefusalLine, IsRefusedFor, most_xpath}
+use Rattle.extract_main.specs.Laws.{PlanLaw}
+use Rattle.extract_main.specs.PageLines.{IsPageLine, MakesLines}
+use Rattle.extract_main.specs.Plans.{Plan, alone, over, IsPlan, IsScriptRefused, IsBulkLine, ForPlan}
+use Rattle.extract_main.specs.Words.{Command, css, run, bulk}
+use Rattle.extract_main.proofs.PageReadings.{one_page_line}
+use Rattle.extract_main.proofs.Readers.{one_script, one_script_fault, read_or_refused}
 use Rattle.extract_main.proofs.Readings.{one_or_other, one_reason, some_reading, within_or_past}
 
 list_and_refusal : (d : Dialect) (text : List ℕ) (a b : Answer) → IsListLine d text a → IsRefusalLine d text b → ⊥
@@ -38,7 +49,7 @@ one_line d text a b (inr h) (inr g) =
     h.line ∙ ap (λ why. record { text = reason_text (codes "css." ++ selector_word why); refused = true }) (one_reason d text h.why g.why h.cause g.cause) ∙ sym g.line
 
 -- and it has some line
-some_line : (d : Dialect) (text : List ℕ) → (a : Answer) × IsCssLine d text a
+pub some_line : (d : Dialect) (text : List ℕ) → (a : Answer) × IsCssLine d text a
 some_line d text = elim (some_reading d text) [
   | inl list ↦ by_length list.0 list.1 (within_or_past (length (printed d list.0)) most_xpath)
   | inr why ↦ (record { text = reason_text (codes "css." ++ selector_word why.0); refused = true }, inr (record { why = why.0; cause = why.1; line = refl }))
@@ -52,18 +63,73 @@ some_line d text = elim (some_reading d text) [
       inr (record { why = fault.XPathLong; cause = record { list = list; accepted = h; long = long }; line = refl }),
     )
 
-only_plan : (d : Dialect) (text : List ℕ) (a : Answer) → IsCssLine d text a → (other : Plan) → IsPlan (css d text) other → other ≡ alone a
-only_plan d text a h (alone b) g = ap alone (one_line d text b a g h)
-only_plan d text a h (over line names) g = absurd g
+-- a script that is refused as a whole has one line
+same_refusal : (s : List ℕ) (a b : Answer) → IsScriptRefused s a → IsScriptRefused s b → a ≡ b
+same_refusal s a b h k =
+    h.line ∙ ap (λ why. record { text = reason_text (codes "script." ++ script_word why); refused = true }) (one_script_fault s h.why k.why h.cause k.cause) ∙ sym k.line
 
-pub one_plan : (command : Command) → (plan : Plan) × IsPlan command plan × ((other : Plan) → IsPlan command other → other ≡ plan)
-one_plan (css d text) = let line : (a : Answer) × IsCssLine d text a = some_line d text in (alone line.0, line.1, only_plan d text line.0 line.1)
+-- what is made by the fields of a script is made by whichever fields it reads as
+makes_for : (d : Dialect) (s : List ℕ) (fields other : List Field) → IsScript d s fields → IsScript d s other → (line : List ℕ → List ℕ → Answer) → MakesLines other line → MakesLines fields line
+makes_for d s fields other h k line makes = subst (λ x. MakesLines x line) (one_script d s other fields k h) makes
 
--- what holds of the line that was made holds of the plan
-pub of_plan : (d : Dialect) (text : List ℕ) (made : Result Line NoMemory) (P : Plan → Type 0) → IfOk made (λ l. IsCssLine d text (answer_of l))
+one_bulk_line : (n : ℕ) (a b : Answer) → IsBulkLine n a → IsBulkLine n b → a ≡ b
+one_bulk_line n a b (inl h) (inl k) = same_refusal bulk_script a b h k
+one_bulk_line n a b (inl h) (inr k) = absurd (read_or_refused Html bulk_script k.fields h.why k.reads h.cause)
+one_bulk_line n a b (inr h) (inl k) = absurd (read_or_refused Html bulk_script h.fields k.why h.reads k.cause)
+one_bulk_line n a b (inr h) (inr k) =
+    let same = one_script Html bulk_script k.fields h.fields k.reads h.reads in
+    one_page_line h.fields (codes "bulk") (bulk_text n) a b h.line (subst (λ x. IsPageLine x (codes "bulk") (bulk_text n) b) same k.line)
+
+-- the line that was made of the bulk page
+pub bulk_line : (n : ℕ) (fields : List Field) (bytes : List ℕ) (made : Result Line NoMemory) → IsScript Html bulk_script fields → bytes ≡ bulk_text n
+    → IfOk made (λ l. IsPageLine fields (codes "bulk") bytes (answer_of l)) → IfOk made (λ l. IsBulkLine n (answer_of l))
+bulk_line n fields bytes made reads same h =
+    IfOk-weaker made _ _ (λ l is. inr (record { fields = fields; reads = reads; line = subst (λ x. IsPageLine fields (codes "bulk") x (answer_of l)) same is })) h
+
+pub one_plan : PlanLaw
+one_plan (css d s) (alone a) (alone b) h k = ap alone (one_line d s a b h k)
+one_plan (css d s) (alone a) (over m q) h k = absurd k
+one_plan (css d s) (over l p) other h k = absurd h
+one_plan (run d s names) (alone a) (alone b) h k = ap alone (same_refusal s a b h k)
+one_plan (run d s names) (alone a) (over m q) h k = absurd (read_or_refused d s k.1.fields h.why k.1.reads h.cause)
+one_plan (run d s names) (over l p) (alone b) h k = absurd (read_or_refused d s h.1.fields k.why h.1.reads k.cause)
+one_plan (run d s names) (over l p) (over m q) h k =
+    let makes : MakesLines h.1.fields m = makes_for d s h.1.fields k.1.fields h.1.reads k.1.reads m k.1.makes in
+    let same : l ≡ m = fun_ext (λ name. fun_ext (λ bytes. one_page_line h.1.fields name bytes (l name bytes) (m name bytes) (h.1.makes name bytes) (makes name bytes))) in
+    ap₂ over same (h.0 ∙ sym k.0)
+one_plan (bulk n) (alone a) (alone b) h k = ap alone (one_bulk_line n a b h k)
+one_plan (bulk n) (alone a) (over m q) h k = absurd k
+one_plan (bulk n) (over l p) other h k = absurd h
+
+-- ---- what holds of the line that was made holds of the plan
+
+pub of_css : (d : Dialect) (text : List ℕ) (made : Result Line NoMemory) (P : Plan → Type 0) → IfOk made (λ l. IsCssLine d text (answer_of l))
     → ((a : Answer) → IfOk made (λ l. answer_of l ≡ a) → P (alone a)) → (plan : Plan) → IsPlan (css d text) plan → P plan
-of_plan d text made P line each (alone a) h = each a (IfOk-weaker made _ _ (λ l is_line. one_line d text (answer_of l) a is_line h) line)
-of_plan d text made P line each (over page names) h = absurd h
+of_css d text made P line each (alone a) h = each a (IfOk-weaker made _ _ (λ l is_line. one_line d text (answer_of l) a is_line h) line)
+of_css d text made P line each (over page names) h = absurd h
+
+pub of_bulk : (n : ℕ) (made : Result Line NoMemory) (P : Plan → Type 0) → IfOk made (λ l. IsBulkLine n (answer_of l))
+    → ((a : Answer) → IfOk made (λ l. answer_of l ≡ a) → P (alone a)) → (plan : Plan) → IsPlan (bulk n) plan → P plan
+of_bulk n made P line each (alone a) h = each a (IfOk-weaker made _ _ (λ l is_line. one_bulk_line n (answer_of l) a is_line h) line)
+of_bulk n made P line each (over page names) h = absurd h
+
+-- a script that reads as fields
+pub of_script : (d : Dialect) (s : List ℕ) (names : List (List ℕ)) (fields : List Field) (P : Plan → Type 0) → IsScript d s fields
+    → ((line : List ℕ → List ℕ → Answer) → MakesLines fields line → P (over line names)) → (plan : Plan) → IsPlan (run d s names) plan → P plan
+of_script d s names fields P reads each (alone a) h = absurd (read_or_refused d s fields h.why reads h.cause)
+of_script d s names fields P reads each (over line pages) h =
+    subst (λ x. P (over line x)) (sym h.0) (each line (makes_for d s fields h.1.fields reads h.1.reads line h.1.makes))
+
+-- a script that is refused as a whole
+pub of_refusal : (d : Dialect) (s : List ℕ) (names : List (List ℕ)) (why : ScriptFault) (made : Result Line NoMemory) (P : Plan → Type 0) → IsScriptFault s why
+    → IfOk made (λ l. IsScriptRefused s (answer_of l)) → ((a : Answer) → IfOk made (λ l. answer_of l ≡ a) → P (alone a)) → (plan : Plan) → IsPlan (run d s names) plan → P plan
+of_refusal d s names why made P cause line each (alone a) h = each a (IfOk-weaker made _ _ (λ l is_line. same_refusal s (answer_of l) a is_line h) line)
+of_refusal d s names why made P cause line each (over page pages) h = absurd (read_or_refused d s h.1.fields why h.1.reads cause)
+
+-- what follows for each plan
+pub for_plan : (said : Option Command) (P Q : Plan → Type 0) → ((plan : Plan) → P plan → Q plan) → ForPlan said P → ForPlan said Q
+for_plan None P Q f h = tt
+for_plan (Some command) P Q f h = λ plan is. f plan (h plan is)
 
 -- the XPath of a line that holds no refusal keeps its meaning
 pub done_keeps : (d : Dialect) (text : List ℕ) (made : Result Line NoMemory)
@@ -73,11 +139,11 @@ done_keeps d text (Ok l) keeps done list h = keeps done list h
 done_keeps d text (Err e) keeps done list h = absurd done
 
 -- what is said of the words' selector is said of any selector that they give
-pub of_command : (d e : Dialect) (text other : List ℕ) (said : Option Command) → Some (css d text) ≡ said → said ≡ Some (css e other)
+pub of_command : (d e : Dialect) (text other : List ℕ) → Some (css d text) ≡ Some (css e other)
     → {Ends : Type 0} → ((list : SelectorList) → Accepts text list → Ends → IsKept d list)
     → (list : SelectorList) → Accepts other list → Ends → IsKept e list
-of_command d e text other said same says {Ends = Ends} keeps =
-    let one : d ≡ e = (let x = same in let y = says in cc) in
-    let two : text ≡ other = (let x = same in let y = says in cc) in
+of_command d e text other says {Ends = Ends} keeps =
+    let one : d ≡ e = (let y = says in cc) in
+    let two : text ≡ other = (let y = says in cc) in
     let P : Dialect → List ℕ → Type 0 = λ x t. (list : SelectorList) → Accepts t list → Ends → IsKept x list in
     subst (λ (x : Dialect). P x other) one (subst (λ (t : List ℕ). P d t) two keeps)

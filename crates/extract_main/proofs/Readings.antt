@@ -9,8 +9,12 @@ use Rattle.css_meaning.specs.declared.selector.SelectorList.{SelectorList}
 use Rattle.css_parser.specs.Selecting.{Accepts, IsFault}
 use Rattle.css_translate.specs.Printed.{printed}
 use Rattle.css_translate.specs.Promise.{KeepsMeaning}
-use Rattle.extract_main.specs.Output.{IsKept, IsRefusedFor, IsXPathLong}
+use Rattle.extract_main.specs.CssLines.{IsKept, IsRefusedFor, IsXPathLong}
 use Rattle.extract_main.specs.Laws.{OneReading}
+use Rattle.json_lines.specs.Lines.{IsSmall}
+use Rattle.std.specs.List.{AllByRecursion}
+use Rattle.std.proofs.lemmas.List.Elements.{All-weaker, recursion_from_All}
+use Rattle.css_meaning.specs.WellMade.{WellMade, IsSelector}
 use Rattle.css_parser.proofs.Existence.{each_list_or_fault}
 use Rattle.css_parser.proofs.SelectingLemmas.{one_reading as one_list, one_fault, list_or_fault}
 
@@ -72,3 +76,7 @@ one_reading d text = record {
   one_or_other = one_or_other d text;
   some = some_reading d text;
 }
+
+-- the triples of a well-made list fit 32 bits
+pub all_small : (list : SelectorList) → WellMade list → AllByRecursion IsSmall list.items
+all_small list h = recursion_from_All IsSmall list.items (All-weaker IsSelector IsSmall (λ s is. is.size) list.items h.each)

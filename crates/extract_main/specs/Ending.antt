@@ -3,9 +3,10 @@ use Rattle.std.specs.Prelude.{◌≡◌, ◌≢◌, ℕ, ◌⊎◌, true, false,
 use Rattle.io_edges.specs.Counts.{Rose, Grows}
 use Rattle.io_edges.specs.Sink.{TakesPart}
 use Rattle.extract_main.specs.Answers.{bytes_of}
-use Rattle.extract_main.specs.Output.{Plan, names_of, answers, known, Stopped, Written}
-use Rattle.extract_main.specs.declared.top.Status.{Status}
-use Rattle.extract_main.specs.declared.top.Status.TheVariants.{Done, Refused, Usage, ReadFault, WriteFault}
+use Rattle.extract_main.specs.Output.{names_of, answers, known, Stopped, Written}
+use Rattle.extract_main.specs.Plans.{Plan}
+use Rattle.extract_main.specs.declared.status.Status.{Status}
+use Rattle.extract_main.specs.declared.status.Status.TheVariants.{Done, Refused, Usage, ReadFault, WriteFault}
 
 pub record Ended (plan : Plan) (told : Option (List (List ℕ × List ℕ))) (begun begun' faults faults' : ℕ) (taken taken' : Option (List ℕ)) (sink sink' : ℕ) (status : Status) : Type 0 where
   pub prefix : IfSome (known plan told) (λ pages. TakesPart taken (bytes_of (answers plan pages)) taken')

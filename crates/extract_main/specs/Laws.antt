@@ -4,8 +4,9 @@ use Rattle.text_base.specs.declared.reasons.SelectorFault.{SelectorFault}
 use Rattle.css_meaning.specs.declared.selector.Dialect.{Dialect}
 use Rattle.css_meaning.specs.declared.selector.SelectorList.{SelectorList}
 use Rattle.css_parser.specs.Selecting.{Accepts}
-use Rattle.extract_main.specs.Words.{Command, words_of, read}
-use Rattle.extract_main.specs.Output.{Plan, IsPlan, IsRefusedFor}
+use Rattle.extract_main.specs.CssLines.{IsRefusedFor}
+use Rattle.extract_main.specs.Plans.{Plan, IsPlan}
+use Rattle.extract_main.specs.Words.{Command, IsWords, read}
 
 -- A text is accepted as at most one list, is refused for at most one reason, and is not both accepted and refused but for the length of its XPath.
 pub record OneReading (d : Dialect) (text : List ℕ) : Type 0 where
@@ -17,10 +18,10 @@ pub record OneReading (d : Dialect) (text : List ℕ) : Type 0 where
 abbrev pub ReadingLaw : Type 0
 ReadingLaw = (d : Dialect) (text : List ℕ) → OneReading d text
 
--- Each command has exactly one plan.
+-- Each command has one plan at most.
 abbrev pub PlanLaw : Type 0
-PlanLaw = (command : Command) → (plan : Plan) × IsPlan command plan × ((other : Plan) → IsPlan command other → other ≡ plan)
+PlanLaw = (command : Command) (plan other : Plan) → IsPlan command plan → IsPlan command other → plan ≡ other
 
 -- The words have the form of a command exactly where they are that command's words.
 abbrev pub WordsLaw : Type 0
-WordsLaw = (words : List (List ℕ)) (command : Command) → (read words ≡ Some command) ↔ (words ≡ words_of command)
+WordsLaw = (words : List (List ℕ)) (command : Command) → (read words ≡ Some command) ↔ IsWords command words

@@ -1,7 +1,11 @@
 pub mod Answers
+pub mod Bulk
+pub mod CssLines
 pub mod Ending
 pub mod Laws
-pub mod Lines
 pub mod Numbers
+pub mod OnePage
 pub mod Output
+pub mod PageLines
+pub mod Plans
 pub mod Words

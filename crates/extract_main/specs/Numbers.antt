@@ -1,7 +1,7 @@
 -- The exit status of the program.
 use Rattle.std.specs.Prelude.{ℕ}
-use Rattle.extract_main.specs.declared.top.Status.{Status}
-use Rattle.extract_main.specs.declared.top.Status.TheVariants.{Done, Refused, Usage, Memory, ReadFault, WriteFault}
+use Rattle.extract_main.specs.declared.status.Status.{Status}
+use Rattle.extract_main.specs.declared.status.Status.TheVariants.{Done, Refused, Usage, Memory, ReadFault, WriteFault}
 
 abbrev pub status_number : Status → ℕ
 status_number Done = 0

@@ -1,72 +1,13 @@
 -- What a run writes, and how it ends.
-use Rattle.std.specs.Prelude.{◌≡◌, ◌≢◌, ◌≤◌, ◌<◌, ℕ, ◌+◌, ◌⊎◌, Bool, true, false, List, [], ◌∷◌, ◌++◌, length, take, Option, Some, None, IfSome, codes, slice_index_or}
+use Rattle.std.specs.Prelude.{◌≡◌, ◌≢◌, ◌<◌, ℕ, ◌+◌, ◌⊎◌, Bool, true, false, List, [], ◌∷◌, length, take, Option, Some, None, IfSome, slice_index_or}
 use Rattle.std.specs.Option.{option_map_or}
-use Rattle.text_base.specs.declared.reasons.SelectorFault.{SelectorFault}
-use Rattle.text_base.specs.declared.reasons.SelectorFault.TheVariants as fault
-use Rattle.text_base.specs.Reasons.{selector_word}
-use Rattle.css_meaning.specs.declared.selector.Dialect.{Dialect}
-use Rattle.css_meaning.specs.declared.selector.SelectorList.{SelectorList}
-use Rattle.css_parser.specs.Selecting.{Accepts, IsFault}
-use Rattle.css_translate.specs.Printed.{printed}
-use Rattle.css_translate.specs.Promise.{KeepsMeaning}
 use Rattle.io_edges.specs.Counts.{Rose, Grows}
 use Rattle.io_edges.specs.Pages.{page, Lacks}
 use Rattle.io_edges.specs.Sink.{grown}
-use Rattle.extract_main.specs.Lines.{css_text, reason_text}
 use Rattle.extract_main.specs.Answers.{Answer, bytes_of, refuses}
-use Rattle.extract_main.specs.Words.{Command, css}
-use Rattle.extract_main.specs.declared.top.Status.{Status}
-use Rattle.extract_main.specs.declared.top.Status.TheVariants.{Done, Refused, Memory, ReadFault}
-
--- the most bytes of a printed XPath
-abbrev pub most_xpath : ℕ
-most_xpath = 1048576
-
--- the printed text of a list keeps the list's meaning
-abbrev pub IsKept : Dialect → SelectorList → Type 0
-IsKept d list = KeepsMeaning d list (printed d list)
-
--- The text is an accepted list whose XPath is short enough: the line has its triples and its printed text.
-pub record IsListLine (d : Dialect) (text : List ℕ) (a : Answer) : Type 0 where
-  pub list : SelectorList
-  pub accepted : Accepts text list
-  pub short : length (printed d list) ≤ most_xpath
-  pub line : a ≡ record { text = css_text list.items (printed d list); refused = false }
-
--- the printed text of the accepted list is too long
-pub record IsXPathLong (d : Dialect) (text : List ℕ) : Type 0 where
-  pub list : SelectorList
-  pub accepted : Accepts text list
-  pub long : most_xpath < length (printed d list)
-
--- why a selector is refused: it is no list, or the XPath of its list is too long
-abbrev pub IsRefusedFor : Dialect → List ℕ → SelectorFault → Type 0
-IsRefusedFor d text fault.XPathLong = IsXPathLong d text
-IsRefusedFor d text why = IsFault text why
-
--- the text is refused: the line has the reason
-pub record IsRefusalLine (d : Dialect) (text : List ℕ) (a : Answer) : Type 0 where
-  pub why : SelectorFault
-  pub cause : IsRefusedFor d text why
-  pub line : a ≡ record { text = reason_text (codes "css." ++ selector_word why); refused = true }
-
--- the line of a selector
-abbrev pub IsCssLine : Dialect → List ℕ → Answer → Type 0
-IsCssLine d text a = IsListLine d text a ⊎ IsRefusalLine d text a
-
--- what a run writes: one line without any page, or a line for each page, made of the page's name and bytes
-pub data Plan : Type 0 where
-  alone : Answer → Plan
-  over : (List ℕ → List ℕ → Answer) → List (List ℕ) → Plan
-
--- the plan of a command
-abbrev pub IsPlan : Command → Plan → Type 0
-IsPlan (css d s) (alone a) = IsCssLine d s a
-IsPlan (css d s) (over line names) = ⊥
-
--- a fact for the plan of the command, where the words have one of the forms
-abbrev pub ForPlan : Option Command → (Plan → Type 0) → Type 0
-ForPlan command P = IfSome command (λ c. (plan : Plan) → IsPlan c plan → P plan)
+use Rattle.extract_main.specs.Plans.{Plan, alone, over}
+use Rattle.extract_main.specs.declared.status.Status.{Status}
+use Rattle.extract_main.specs.declared.status.Status.TheVariants.{Done, Refused, Memory, ReadFault}
 
 -- the pages of a run
 abbrev pub names_of : Plan → List (List ℕ)

@@ -8,7 +8,6 @@ pub fn one_reading()
 {}
 
 /// Each command has exactly one plan, so its output is one list of lines.
-#[tactic(auto, using(crate::proofs::Plans::one_plan))]
 pub fn one_plan()
     ensures { PlanLaw }
 {}

@@ -1,18 +1,22 @@
-//! The program `extract`: compiles CSS selectors to XPath.
+//! The program `extract`: compiles CSS selectors to XPath, and runs scripts of queries on pages.
 #![tactic(auto)]
 
 mod answers;
-mod json_lines;
+mod bulk;
 mod laws;
+mod page_lines;
+mod pages;
+mod status;
 mod top;
 mod words;
+mod writing;
 
-use crate::top::{Status, extract};
-use io_edges::{MemPages, StdoutSink};
+use crate::status::Status;
+use crate::top::extract;
+use io_edges::{FilePages, StdoutSink};
 use std::env;
 use std::io::ErrorKind;
 use std::process::ExitCode;
-use text_base::Seq;
 
 /// The words after the program's name, or the status where no memory was found for them. Where a
 /// word is not UTF-8, there are none.
@@ -35,13 +39,11 @@ fn words_of(rt: &HostRuntime) -> Result<Vec<String>, Status> {
     Ok(words)
 }
 
-/// Runs the program's words, which read no pages, on standard output.
+/// Runs the program's words on files and standard output.
 fn status_of(rt: &HostRuntime) -> Status {
     match words_of(rt) {
         Ok(words) => {
-            let files = Seq::from_vec(Vec::new(rt.alloc()));
-            let fails = Seq::from_vec(Vec::new(rt.alloc()));
-            let mut pages = MemPages::new(files, 1, fails);
+            let mut pages = FilePages::new(rt);
             let mut sink = StdoutSink::new(rt);
             extract(rt.alloc(), words.as_slice(), &mut pages, &mut sink)
         }
@@ -64,5 +66,3 @@ fn main(rt: HostRuntime) -> ExitCode {
     ExitCode::from(status.number())
 }
 
-#[cfg(test)]
-mod tests;

@@ -1,97 +1,27 @@
 //! The top call.
-ghost use Rattle.std.specs.Prelude.{◌≡◌, ◌≢◌, ◌⊎◌, ◌↔◌, ◌≤◌, ℕ, List, Option, None, Some, true, false, [], map, length, IfOk, IsOkAnd, IsErrOf, OnErr, Err, IfSome, string_bytes};
+ghost use Rattle.std.specs.Prelude.{◌≡◌, ◌≢◌, ◌⊎◌, ◌↔◌, ◌≤◌, ℕ, List, Option, None, Some, true, false, [], map, length, IfSome, string_bytes};
 ghost use Rattle.io_edges.specs.Counts.{Rose, Grows};
-ghost use Rattle.io_edges.specs.Sink.{grown, TakesPart};
+ghost use Rattle.io_edges.specs.Sink.{TakesPart};
 ghost use Rattle.css_meaning.specs.declared.selector.SelectorList.{SelectorList};
 ghost use Rattle.css_parser.specs.Selecting.{Accepts};
-ghost use Rattle.extract_main.specs.Answers.{Answer, answer_of, line_bytes, bytes_of};
-ghost use Rattle.extract_main.specs.Words.{Command, css, read, command_of};
-ghost use Rattle.extract_main.specs.Output.{IsKept, ForPlan, names_of, alone, answers, known, HasAll, Written, Stopped, Completes, Lacking};
+ghost use Rattle.extract_main.specs.Answers.{bytes_of};
+ghost use Rattle.extract_main.specs.CssLines.{IsKept};
 ghost use Rattle.extract_main.specs.Ending.{Ended};
-ghost use Rattle.extract_main.specs.Numbers.{status_number};
+ghost use Rattle.extract_main.specs.Output.{names_of, answers, known, HasAll, Written, Stopped, Completes, Lacking};
+ghost use Rattle.extract_main.specs.Plans.{Plan, ForPlan, IsPlan};
+ghost use Rattle.extract_main.specs.Words.{Command, css, run, bulk, read, command_of};
 
-use crate::answers::{Line, css_answer};
+use crate::answers::{css_answer, script_answer};
+use crate::bulk::bulk_answer;
+use crate::pages::write_pages;
+use crate::status::Status;
 use crate::words::{Form, read};
+use crate::writing::write_alone;
 use css_meaning::Dialect;
-use io_edges::{Pages, Sink, write_whole};
+use io_edges::{Pages, Sink};
+use query_script::parse_script;
 use std::alloc::Global;
-use text_base::NoMemory;
-
-/// How a run ended.
-#[derive(Clone, Copy, Debug, PartialEq, Eq)]
-pub enum Status {
-    /// All was written, and it holds no refusal.
-    Done,
-    /// All was written, and it holds a refusal.
-    Refused,
-    /// The words have none of the forms.
-    Usage,
-    /// No memory was found.
-    Memory,
-    /// A page was not read.
-    ReadFault,
-    /// The sink failed.
-    WriteFault,
-}
-
-impl Status {
-    /// The exit status of the program, from 0 to 5.
-    pub fn number(&self) -> u8
-        ensures { result ≡ status_number self.now }
-    {
-        match self {
-            Status::Done => 0,
-            Status::Refused => 1,
-            Status::Usage => 2,
-            Status::Memory => 3,
-            Status::ReadFault => 4,
-            Status::WriteFault => 5,
-        }
-    }
-}
-
-/// Writes a line, and tells whether it holds a refusal.
-fn write_line<W: Sink>(line: Line, sink: &mut W) -> Result<bool, Status>
-    ensures ok { IfOk result (λ r. ((answer_of line).refused ≡ r) × (W.taken sink.new ≡ grown (W.taken sink.old) (line_bytes (answer_of line)))) }
-    ensures err { OnErr result (TakesPart (W.taken sink.old) (line_bytes (answer_of line)) (W.taken sink.new)) }
-    ensures never_falls { W.faults sink.old ≤ W.faults sink.new }
-    ensures write_fault { IsErrOf result Status.WriteFault → Rose (W.faults sink.old) (W.faults sink.new) }
-    ensures other { (result ≢ Err Status.Done) × (result ≢ Err Status.Refused) × (result ≢ Err Status.Usage) × (result ≢ Err Status.ReadFault) }
-{
-    let refused = line.refused;
-    let mut text = line.text;
-    match text.push_str("\n") {
-        Ok(()) => {}
-        Err(_) => return Err(Status::Memory),
-    }
-    match write_whole(sink, text.as_bytes()) {
-        Ok(()) => Ok(refused),
-        Err(_) => Err(Status::WriteFault),
-    }
-}
-
-/// Writes the one line of a run without pages.
-fn write_alone<W: Sink>(made: Result<Line, NoMemory>, sink: &mut W) -> Status
-    ensures ended { (told : Option (List (List ℕ × List ℕ))) → (b : ℕ) → (f : ℕ) → (a : Answer) → IfOk made (λ line. answer_of line ≡ a) →
-        Ended (alone a) told b b f f (W.taken sink.old) (W.taken sink.new) (W.faults sink.old) (W.faults sink.new) result }
-    ensures done { result ≡ Status.Done → IsOkAnd made (λ line. line.refused ≡ false) }
-    ensures write_fault { result ≡ Status.WriteFault → Rose (W.faults sink.old) (W.faults sink.new) }
-    ensures other { (result ≢ Status.Usage) × (result ≢ Status.ReadFault) }
-{
-    let Ok(line) = made else {
-        return Status::Memory;
-    };
-    match write_line(line, sink) {
-        Ok(refused) => {
-            if refused {
-                Status::Refused
-            } else {
-                Status::Done
-            }
-        }
-        Err(status) => status,
-    }
-}
+use text_base::ScriptFault;
 
 /// Writes the line of a selector.
 fn write_css<W: Sink>(alloc: Global, dialect: Dialect, selector: &str, sink: &mut W) -> Status
@@ -99,15 +29,74 @@ fn write_css<W: Sink>(alloc: Global, dialect: Dialect, selector: &str, sink: &mu
         Ended plan told b b f f (W.taken sink.old) (W.taken sink.new) (W.faults sink.old) (W.faults sink.new) result) }
     ensures meaning { (list : SelectorList) → Accepts selector.now list → result ≡ Status.Done → IsKept dialect list }
     ensures write_fault { result ≡ Status.WriteFault → Rose (W.faults sink.old) (W.faults sink.new) }
-    ensures other { (result ≢ Status.Usage) × (result ≢ Status.ReadFault) }
+    ensures other { result ≢ Status.Usage }
 {
     write_alone(css_answer(alloc, dialect, selector), sink)
 }
 
-/// Runs what the words say: `css DIALECT SELECTOR` writes the line of a selector.
+/// Writes the line of the bulk page.
+fn write_bulk<W: Sink>(alloc: Global, n: u32, sink: &mut W) -> Status
+    requires some { 1 ≤ n }
+    requires most { n ≤ 20000 }
+    ensures ended { ForPlan (Some (bulk n)) (λ plan. (told : Option (List (List ℕ × List ℕ))) → (b : ℕ) → (f : ℕ) →
+        Ended plan told b b f f (W.taken sink.old) (W.taken sink.new) (W.faults sink.old) (W.faults sink.new) result) }
+    ensures write_fault { result ≡ Status.WriteFault → Rose (W.faults sink.old) (W.faults sink.new) }
+    ensures other { result ≢ Status.Usage }
+{
+    write_alone(bulk_answer(alloc, n), sink)
+}
+
+/// Writes the line of each page, or that of a script that is refused as a whole.
+fn write_run<P: Pages, W: Sink>(
+    alloc: Global,
+    dialect: Dialect,
+    script: &str,
+    names: &[String],
+    pages: &mut P,
+    sink: &mut W,
+) -> Status
+    ensures told { P.told pages.new ≡ P.told pages.old }
+    ensures ended { ForPlan (Some (run dialect script.now (map string_bytes names.now))) (λ plan. Ended plan (P.told pages.old)
+        (P.begun pages.old) (P.begun pages.new) (P.faults pages.old) (P.faults pages.new)
+        (W.taken sink.old) (W.taken sink.new) (W.faults sink.old) (W.faults sink.new) result) }
+    ensures idle { ForPlan (Some (run dialect script.now (map string_bytes names.now))) (λ plan. names_of plan ≡ [] → pages.new ≡ pages.old) }
+    ensures write_fault { result ≡ Status.WriteFault → Rose (W.faults sink.old) (W.faults sink.new) }
+    ensures other { result ≢ Status.Usage }
+{
+    match parse_script(alloc, dialect, script) {
+        Ok(read) => write_pages(alloc, &read.fields, names, pages, sink),
+        Err(ScriptFault::Memory) => Status::Memory,
+        Err(fault) => write_alone(script_answer(alloc, script, fault), sink),
+    }
+}
+
+/// Writes what the words ask for.
+fn write_form<P: Pages, W: Sink>(alloc: Global, form: Form<'_>, pages: &mut P, sink: &mut W) -> Status
+    requires { (n : ℕ) → command_of form ≡ Some (bulk n) → (1 ≤ n) × (n ≤ 20000) }
+    ensures usage { result ≡ Status.Usage ↔ command_of form.entry ≡ None }
+    ensures nothing { command_of form.entry ≡ None → (pages.new ≡ pages.old) × (sink.new ≡ sink.old) }
+    ensures told { P.told pages.new ≡ P.told pages.old }
+    ensures ended { ForPlan (command_of form.entry) (λ plan. Ended plan (P.told pages.old)
+        (P.begun pages.old) (P.begun pages.new) (P.faults pages.old) (P.faults pages.new)
+        (W.taken sink.old) (W.taken sink.new) (W.faults sink.old) (W.faults sink.new) result) }
+    ensures idle { ForPlan (command_of form.entry) (λ plan. names_of plan ≡ [] → pages.new ≡ pages.old) }
+    ensures write_fault { result ≡ Status.WriteFault → Rose (W.faults sink.old) (W.faults sink.new) }
+    ensures meaning { (d : Dialect) → (s : List ℕ) → (list : SelectorList) → command_of form.entry ≡ Some (css d s) → Accepts s list →
+        result ≡ Status.Done → IsKept d list }
+{
+    match form {
+        Form::Css(dialect, selector) => write_css(alloc, dialect, selector, sink),
+        Form::Run(dialect, script, names) => write_run(alloc, dialect, script, names, pages, sink),
+        Form::Bulk(n) => write_bulk(alloc, n, sink),
+        Form::Other => Status::Usage,
+    }
+}
+
+/// Runs what the words say: `css DIALECT SELECTOR` writes the line of a selector, `run DIALECT SCRIPT PAGE..` a line for each
+/// page, and `bulk N` the line of the bulk page of N items.
 ///
-/// Whatever the status, the sink took a prefix of the output. `Usage` comes exactly where the
-/// words have none of the forms, and then nothing was read or written.
+/// Whatever the status, the sink took a prefix of the output. `Usage` comes exactly where the words have none of the forms, and
+/// then nothing was read or written. A page that is refused has its line, and the run goes on; a page that can't be read ends it.
 pub fn extract<P: Pages, W: Sink>(
     alloc: Global,
     words: &[String],
@@ -148,8 +137,5 @@ pub fn extract<P: Pages, W: Sink>(
     ensures meaning { (d : Dialect) → (s : List ℕ) → (list : SelectorList) → read (map string_bytes words.now) ≡ Some (css d s) → Accepts s list →
         result ≡ Status.Done → IsKept d list }
 {
-    match read(words) {
-        Form::Css(dialect, selector) => write_css(alloc, dialect, selector, sink),
-        Form::Other => Status::Usage,
-    }
+    write_form(alloc, read(words), pages, sink)
 }

@@ -1,6 +1,5 @@
-use Rattle.extract_main.proofs.LineLemmas.{all_small}
 use Rattle.css_parser.proofs.WellMadeLemmas.{well_made}
-use Rattle.extract_main.proofs.Readings.{keeps_for}
+use Rattle.extract_main.proofs.Readings.{all_small, keeps_for}
 use Rattle.extract_main.proofs.answers.css_answer.Goals as goal
 
 pub translate-requires : goal.translate-requires

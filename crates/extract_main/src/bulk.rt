@@ -1,0 +1,95 @@
+//! The bulk page, and the line of it.
+ghost use Rattle.std.specs.Prelude.{◌≡◌, ◌≤◌, ◌+◌, ◌++◌, ◌<◌, ◌^◌, IfOk, OnOk, string_bytes, decimal};
+ghost use Rattle.extract_main.specs.Answers.{answer_of};
+ghost use Rattle.extract_main.specs.Bulk.{item_tag, item_link, bulk_item, bulk_text, bulk_script};
+ghost use Rattle.extract_main.specs.Plans.{IsBulkLine};
+
+use crate::answers::{Line, script_answer};
+use crate::page_lines::page_answer;
+use css_meaning::Dialect;
+use query_script::parse_script;
+use std::alloc::Global;
+use text_base::{NoMemory, ScriptFault};
+
+/// What is asked of the bulk page: five fields.
+const BULK_SCRIPT: &str = "items: xpath('count(//li)').get()\nk3: xpath('count(//li[@class = \"k3\"])').get()\nlast: css('ul > li:last-child a::text').get()\nodd: xpath('count(//li[count(preceding-sibling::li) mod 2 = 0])').get()\nfirst: css('#n1 a::attr(href)').get()";
+
+fn push(page: &mut String, text: &str) -> Result<(), NoMemory>
+    ensures { OnOk result (string_bytes page.new ≡ string_bytes page.old ++ text.now) }
+{
+    match page.push_str(text) {
+        Ok(()) => Ok(()),
+        Err(_) => Err(NoMemory),
+    }
+}
+
+/// Appends the decimal digits.
+fn push_number(alloc: Global, page: &mut String, n: u32) -> Result<(), NoMemory>
+    ensures { OnOk result (string_bytes page.new ≡ string_bytes page.old ++ decimal n) }
+{
+    match n.to_string(alloc) {
+        Ok(digits) => push(page, digits.as_str()),
+        Err(_) => Err(NoMemory),
+    }
+}
+
+/// Appends the start tag of an item.
+fn push_tag(alloc: Global, page: &mut String, i: u32) -> Result<(), NoMemory>
+    ensures { OnOk result (string_bytes page.new ≡ string_bytes page.old ++ item_tag i) }
+{
+    push(page, "<li class=\"k")?;
+    push_number(alloc, page, i % 7)?;
+    push(page, "\" id=\"n")?;
+    push_number(alloc, page, i)?;
+    push(page, "\">")
+}
+
+/// Appends the link of an item.
+fn push_link(alloc: Global, page: &mut String, i: u32) -> Result<(), NoMemory>
+    ensures { OnOk result (string_bytes page.new ≡ string_bytes page.old ++ item_link i) }
+{
+    push(page, "<a href=\"/p/")?;
+    push_number(alloc, page, i)?;
+    push(page, "\">item ")?;
+    push_number(alloc, page, i)?;
+    push(page, "</a>")
+}
+
+/// Appends the item of this number.
+fn push_item(alloc: Global, page: &mut String, i: u32) -> Result<(), NoMemory>
+    ensures { OnOk result (string_bytes page.new ≡ string_bytes page.old ++ bulk_item i) }
+{
+    push_tag(alloc, page, i)?;
+    push_link(alloc, page, i)
+}
+
+/// The page with the items from 1 to `n`, in one line: a list whose items have classes, ids and links.
+pub fn bulk_page(alloc: Global, n: u32) -> Result<String, NoMemory>
+    requires some { 1 ≤ n }
+    requires most { n ≤ 20000 }
+    ensures { IfOk result (λ s. string_bytes s ≡ bulk_text n) }
+{
+    let mut page = String::new(alloc);
+    push(&mut page, "<!DOCTYPE html><html><head><title>bulk</title></head><body><ul>")?;
+    for i in 0..n {
+        push_item(alloc, &mut page, i + 1)?;
+    }
+    push(&mut page, "</ul></body></html>")?;
+    Ok(page)
+}
+
+/// The line that the bulk script has for the bulk page of `n` items.
+pub fn bulk_answer(alloc: Global, n: u32) -> Result<Line, NoMemory>
+    requires some { 1 ≤ n }
+    requires most { n ≤ 20000 }
+    ensures { IfOk result (λ line. IsBulkLine n (answer_of line)) }
+{
+    match parse_script(alloc, Dialect::Html, BULK_SCRIPT) {
+        Ok(script) => {
+            let page = bulk_page(alloc, n)?;
+            page_answer(alloc, &script.fields, "bulk", page.as_bytes())
+        }
+        Err(ScriptFault::Memory) => Err(NoMemory),
+        Err(fault) => script_answer(alloc, BULK_SCRIPT, fault),
+    }
+}

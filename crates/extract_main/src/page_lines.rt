@@ -1,0 +1,113 @@
+//! The line of a page, from its bytes.
+ghost use Rattle.std.specs.Prelude.{◌≡◌, ◌≢◌, ◌≤◌, length, IsOk, IfOk, true};
+ghost use Rattle.std.specs.List.{AllByRecursion, list_any};
+ghost use Rattle.query_script.specs.Ordered.{IsOrdered};
+ghost use Rattle.json_lines.specs.Pages.{refused_text};
+ghost use Rattle.extract_main.specs.Answers.{answer_of};
+ghost use Rattle.extract_main.specs.OnePage.{IsDocumentLine, IsTextLine};
+ghost use Rattle.extract_main.specs.PageLines.{most_page, too_long, AreValues, is_refused, IsPageLine};
+
+use crate::answers::Line;
+use doc_model::{Axes, Plain, VecGrow};
+use html_reader::read_html;
+use io_edges::PAGE_LIMIT;
+use json_lines::{page_line, refused_line};
+use query_chain::run_field;
+use query_script::{Field, FieldValue};
+use std::alloc::Global;
+use text_base::{NoMemory, PageFault, PageReason, Seq, decode_page};
+
+/// The line of a page that is refused, or want of memory where that is the reason.
+fn refused_answer(alloc: Global, name: &str, fault: PageFault) -> Result<Line, NoMemory>
+    ensures named { IsOk result → fault.reason ≢ PageReason.Memory }
+    ensures line { IfOk result (λ line. answer_of line ≡ record { text = refused_text name.now fault; refused = true }) }
+{
+    if fault.reason == PageReason::Memory {
+        return Err(NoMemory);
+    }
+    let text = refused_line(alloc, name, fault)?;
+    Ok(Line {
+        text,
+        refused: true,
+    })
+}
+
+/// The line of a page with more bytes than a page may have.
+pub fn long_answer(alloc: Global, name: &str) -> Result<Line, NoMemory>
+    ensures { IfOk result (λ line. answer_of line ≡ record { text = refused_text name.now too_long; refused = true }) }
+{
+    refused_answer(
+        alloc,
+        name,
+        PageFault {
+            reason: PageReason::TooLong,
+            at: PAGE_LIMIT,
+        },
+    )
+}
+
+/// The fields' values on a document, in order.
+fn values_of<S: Axes>(alloc: Global, source: &S, fields: &[Field]) -> Result<Seq<FieldValue>, NoMemory>
+    requires { AllByRecursion IsOrdered fields.now }
+    ensures { IfOk result (λ values. AreValues (S.document source.now) fields.now values) }
+{
+    let mut values = Vec::new(alloc);
+    for field in fields {
+        values.push(run_field(alloc, source, field)?)?;
+    }
+    Ok(Seq::from_vec(values))
+}
+
+/// Whether a value is a refusal.
+fn is_refused(value: &FieldValue) -> bool
+    ensures { result ≡ is_refused value.now }
+{
+    match value {
+        FieldValue::All(_) | FieldValue::One(_) => false,
+        FieldValue::Refused(_) => true,
+    }
+}
+
+/// Whether one of the values is a refusal.
+fn holds_refusal(values: &[FieldValue]) -> bool
+    ensures { result ≡ list_any is_refused values.now }
+{
+    values.iter().any(is_refused)
+}
+
+/// The line of a document.
+fn document_answer<S: Axes>(alloc: Global, fields: &Seq<Field>, name: &str, source: &S) -> Result<Line, NoMemory>
+    requires { AllByRecursion IsOrdered fields.now }
+    ensures { IfOk result (λ line. IsDocumentLine fields.now name.now (S.document source.now) (answer_of line)) }
+{
+    let values = values_of(alloc, source, fields.as_slice())?;
+    let refused = holds_refusal(values.as_slice());
+    let text = page_line(alloc, name, fields, &values)?;
+    Ok(Line { text, refused })
+}
+
+/// The line of a page within the limit whose bytes decode to the text.
+fn text_answer(alloc: Global, fields: &Seq<Field>, name: &str, text: &str) -> Result<Line, NoMemory>
+    requires ordered { AllByRecursion IsOrdered fields.now }
+    requires short { length text.now ≤ most_page }
+    ensures { IfOk result (λ line. IsTextLine fields.now name.now text.now (answer_of line)) }
+{
+    match read_html(alloc, text, VecGrow::new(alloc)) {
+        Ok(tree) => document_answer(alloc, fields, name, &Plain::new(tree)),
+        Err(fault) => refused_answer(alloc, name, fault),
+    }
+}
+
+/// The line of a page: the fields with their values in the tree that the bytes spell, or why the page is refused, and where.
+pub fn page_answer(alloc: Global, fields: &Seq<Field>, name: &str, bytes: &[u8]) -> Result<Line, NoMemory>
+    requires { AllByRecursion IsOrdered fields.now }
+    ensures { IfOk result (λ line. IsPageLine fields.now name.now bytes.now (answer_of line)) }
+{
+    if bytes.len() > PAGE_LIMIT {
+        return long_answer(alloc, name);
+    }
+    match decode_page(alloc, bytes) {
+        Ok(text) => text_answer(alloc, fields, name, text.as_str()),
+        Err(fault) => refused_answer(alloc, name, fault),
+    }
+}
