@@ -12,3 +12,4 @@ pub mod Reading
 pub mod Shapes
 pub mod Terms
 pub mod Typed
+pub mod Typings

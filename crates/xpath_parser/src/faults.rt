@@ -48,7 +48,7 @@ fn argument_count(after: &[Term]) -> usize
 }
 
 /// Whether the function takes so many arguments, XPath 1.0, section 4.
-fn takes(function: Func, count: usize) -> bool
+pub fn takes(function: Func, count: usize) -> bool
     ensures { result ≡ takes function count }
 {
     match function {

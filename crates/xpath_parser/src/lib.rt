@@ -12,6 +12,7 @@ mod numbers;
 mod parse;
 mod pieces;
 mod refusal;
+mod shapes;
 mod term;
 mod terms;
 mod tiers;
