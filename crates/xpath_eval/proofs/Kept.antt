@@ -11,6 +11,7 @@ use Rattle.doc_model.specs.declared.NodeTest.{NodeTest}
 use Rattle.doc_model.specs.RowLists.{Run, has}
 use Rattle.doc_model.proofs.Runs.{run_lower, filter_run}
 use Rattle.xpath_parser.specs.declared.expression.Step.{Step, out-Step}
+use Rattle.xpath_parser.specs.Functions.{Context}
 use Rattle.xpath_parser.specs.Denote.{Meaning, kept, kept_from, keeps, denote, walk_of}
 use Rattle.xpath_parser.proofs.Equations.{at_step}
 use Rattle.xpath_eval.specs.Rows.{AllBelow}
@@ -54,6 +55,13 @@ pub kept_from_few : (p : Meaning) (size at : ℕ) (xs : List ℕ) → length (ke
 kept_from_few p size at [] = omega arith
 kept_from_few p size at (x ∷ xs) =
     length_either x (length xs) (kept_from p size (suc at) xs) (keeps at (p (record { row = x; position = at; size = size }))) (kept_from_few p size (suc at) xs)
+
+-- predicates with the same values keep the same rows
+pub kept_from_same : (p q : Meaning) → ((c : Context) → p c ≡ q c) → (size at : ℕ) (xs : List ℕ) → kept_from p size at xs ≡ kept_from q size at xs
+kept_from_same p q same size at [] = refl
+kept_from_same p q same size at (x ∷ xs) =
+    ap (λ v. cond (keeps at v) (x ∷ kept_from p size (suc at) xs) (kept_from p size (suc at) xs)) (same (record { row = x; position = at; size = size }))
+    ∙ ap (λ r. cond (keeps at (q (record { row = x; position = at; size = size }))) (x ∷ r) r) (kept_from_same p q same size (suc at) xs)
 
 -- ---- one step
 

@@ -1,3 +1,5 @@
+pub mod Counting
+pub mod Covering
 pub mod Gathers
 pub mod Kept
 pub mod Lists

@@ -4,6 +4,7 @@ use Rattle.std.specs.Prelude.{filter, reverse, IfOk}
 use Rattle.std.specs.List.{All, list_any, dedup, dedup_from, range_with_len}
 use Rattle.std.specs.List.Sorted.{IsStrictlyIncreasing}
 use Rattle.std.proofs.lemmas.Bool.Decides.{nat_tests}
+use Rattle.std.proofs.lemmas.List.Folds.{list_any_at}
 use Rattle.std.proofs.lemmas.List.{reverse-append, take_more}
 use Rattle.std.proofs.Math.Seq.{drop-cons}
 use Rattle.std.proofs.lemmas.List.Elements.{All-nil, All-cons, All-head, All-tail}
@@ -122,3 +123,6 @@ take_at xs i x is h = take_more xs i x h ∙ ap (λ v. take i xs ++ v ∷ []) (s
 pub if_ok_from : {A E : Type 0} (r : Result A E) (P Q : A → Type 0) → ((v : A) → P v → Q v) → IfOk r P → IfOk r Q
 if_ok_from (Ok v) P Q f h = f v h
 if_ok_from (Err e) P Q f h = tt
+
+pub member_at : (xs : List ℕ) (i : ℕ) → i < length xs → has (get_or xs i 0) xs ≡ true
+member_at xs i h = list_any_at (λ x. eqb x (get_or xs i 0)) xs i 0 h (itself (get_or xs i 0))

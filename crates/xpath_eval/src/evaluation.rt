@@ -8,9 +8,10 @@ ghost use Rattle.xpath_functions.specs.Rows.{AreWithin, IsWithin};
 ghost use Rattle.xpath_eval.specs.Places.{context};
 ghost use Rattle.xpath_eval.specs.Rows.{AreRows, AllBelow};
 
+use crate::contexts::{covering, is_covered_step};
+use crate::counts::{axis_number, is_count, lone_step, only};
 use crate::forms::{applied, axis_rows, keeps, literal_number, nodes, put_if, rows_of_nodes, signed};
-use crate::ordering;
-use crate::ordering::ordered;
+use crate::ordering::{add, add_list, ordered};
 use crate::place::Place;
 use doc_model::Axes;
 use std::alloc::Global;
@@ -54,6 +55,11 @@ pub fn value_at<S: Axes>(
         Expr::Literal(text) => Ok(Value::Str(Txt::of(alloc, text.as_str())?)),
         Expr::Number(n) => Ok(Value::Num(literal_number(n))),
         Expr::Call(func, es) => {
+            if is_count(*func) {
+                if let Some(step) = lone_step(es.as_slice()) {
+                    return Ok(Value::Num(axis_number(source, place.row, step)));
+                }
+            }
             let args = values(alloc, source, es.as_slice(), place)?;
             call(alloc, source, *func, &args, place.row, place.position, place.size)
         }
@@ -157,7 +163,7 @@ fn union<S: Axes>(
     for e in es {
         let value = value_at(alloc, source, e, place)?;
         let rows = nodes(alloc, value);
-        found = ordering::joined(found, rows.as_slice(), most)?;
+        found = add(found, rows.as_slice(), most)?;
     }
     Ok(Seq::from_vec(ordered(found)))
 }
@@ -202,9 +208,27 @@ fn path<S: Axes>(
     Ok(rows)
 }
 
-/// The rows of a step from each of the rows.
+/// The rows of a step from the rows together. Rows that add nothing to those of another one are left out.
 #[cycle(evaluation)]
 fn after<S: Axes>(
+    alloc: Global,
+    source: &S,
+    rows: &[u32],
+    step: &Step,
+) -> Result<Seq<u32>, NoMemory>
+    requires { AllBelow (length (S.document source.now)) rows.now }
+    ensures { IfOk result (λ found. found ≡ spec.rows_in (S.document source.now) rows.now (spec.walk_of (S.document source.now) step.now)) }
+{
+    if rows.len() > 1 && is_covered_step(step) {
+        let few = covering(alloc, source, step.axis, rows)?;
+        return from_each(alloc, source, few.as_slice(), step);
+    }
+    from_each(alloc, source, rows, step)
+}
+
+/// The rows of a step from each of the rows.
+#[cycle(evaluation)]
+fn from_each<S: Axes>(
     alloc: Global,
     source: &S,
     rows: &[u32],
@@ -217,7 +241,7 @@ fn after<S: Axes>(
     let mut found = Vec::new(alloc);
     for x in rows {
         let walked = walk(alloc, source, *x, step)?;
-        found = ordering::joined(found, walked.as_slice(), most)?;
+        found = add_list(found, walked, most)?;
     }
     Ok(Seq::from_vec(ordered(found)))
 }
@@ -272,9 +296,28 @@ fn filtered<S: Axes>(
     Ok(())
 }
 
-/// Leaves the rows at which the predicate holds.
+/// Leaves the rows at which the predicate holds. A number that is written out is looked up, with no walk over the rows.
 #[cycle(evaluation)]
 fn kept<S: Axes>(
+    alloc: Global,
+    source: &S,
+    predicate: &Expr,
+    rows: &mut Vec<u32>,
+) -> Result<(), NoMemory>
+    requires within { AllBelow (length (S.document source.now)) rows.old.items }
+    requires few { length rows.old.items ≤ length (S.document source.now) }
+    ensures { OnOk result (rows.new.items ≡ spec.kept_from (spec.denote (S.document source.now) predicate.now) (length rows.old.items) 1 rows.old.items) }
+{
+    if let Expr::Number(n) = predicate {
+        only(n, rows);
+        return Ok(());
+    }
+    tried(alloc, source, predicate, rows)
+}
+
+/// Leaves the rows at which the predicate holds, asked row by row.
+#[cycle(evaluation)]
+fn tried<S: Axes>(
     alloc: Global,
     source: &S,
     predicate: &Expr,

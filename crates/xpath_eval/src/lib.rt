@@ -1,6 +1,8 @@
 //! Evaluation of XPath 1.0 expressions in a document.
 #![tactic(auto)]
 
+mod contexts;
+mod counts;
 mod evaluation;
 mod forms;
 mod ordering;

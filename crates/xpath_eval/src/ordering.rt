@@ -34,7 +34,7 @@ pub fn ordered(rows: Vec<u32>) -> Vec<u32>
 }
 
 /// The rows of two lists. Where there are more than `most`, they are brought into order, so that each is kept once.
-pub fn joined(found: Vec<u32>, more: &[u32], most: usize) -> Result<Vec<u32>, NoMemory>
+pub fn add(found: Vec<u32>, more: &[u32], most: usize) -> Result<Vec<u32>, NoMemory>
     ensures { IfOk result (λ v. (y : ℕ) → has y v.items ≡ (has y found.items || has y more.now)) }
 {
     let mut found = found;
@@ -43,4 +43,14 @@ pub fn joined(found: Vec<u32>, more: &[u32], most: usize) -> Result<Vec<u32>, No
         return Ok(ordered(found));
     }
     Ok(found)
+}
+
+/// The same, and where nothing was found before, the second list itself.
+pub fn add_list(found: Vec<u32>, more: Vec<u32>, most: usize) -> Result<Vec<u32>, NoMemory>
+    ensures { IfOk result (λ v. (y : ℕ) → has y v.items ≡ (has y found.items || has y more.items)) }
+{
+    if found.len() == 0 {
+        return Ok(more);
+    }
+    add(found, more.as_slice(), most)
 }

@@ -18,6 +18,10 @@ use Rattle.xpath_parser.proofs.Equations as eqs
 use Rattle.xpath_functions.specs.Rows.{AreWithin, IsWithin}
 use Rattle.xpath_eval.specs.Places.{context}
 use Rattle.xpath_eval.specs.Rows.{AreRows, AllBelow}
+use Rattle.xpath_values.specs.Numbers.{whole}
+use Rattle.xpath_eval.specs.Steps.{IsLoneStep}
+use Rattle.xpath_eval.proofs.Counting as counting
+use Rattle.xpath_eval.proofs.Covering as covering
 use Rattle.xpath_eval.proofs.Gathers as gathers
 use Rattle.xpath_eval.proofs.Kept as kept
 use Rattle.xpath_eval.proofs.Lists as lists
@@ -25,8 +29,8 @@ use Rattle.xpath_eval.proofs.evaluation.+evaluation.Goals as goal
 
 -- ---- loops
 
-pub after-loop-x-preserved : goal.after-loop-x-preserved
-after-loop-x-preserved g t c =
+pub from_each-loop-x-preserved : goal.from_each-loop-x-preserved
+from_each-loop-x-preserved g t c =
     let doc = g.S.Tree.document c.args.source.now in
     let w = spec.walk_of doc c.args.step.now in
     let xs = c.args.rows.now in
@@ -34,10 +38,10 @@ after-loop-x-preserved g t c =
     let x = get_or xs i 0 in
     subst (λ v. gathers.Gathered (length doc) v w c.in_ok-found.found.items) (sym (take_more xs i 0 c.loop-x-test.true))
     (gathers.gathered_more (length doc) (take i xs) x w c.loop-x.found.items c.in_ok-found.found.items c.loop-x.invariant (kept.walk_below doc c.args.step.now x)
-    (λ y. c.in_ok-found.ensures y ∙ ap (λ v. has y c.loop-x.found.items || has y v) (c.as_slice.ensures.value ∙ c.in_ok-walked.ensures)))
+    (λ y. c.in_ok-found.ensures y ∙ ap (λ v. has y c.loop-x.found.items || has y v) c.in_ok-walked.ensures))
 
-pub after-returns : goal.after-returns
-after-returns g t c =
+pub from_each-returns : goal.from_each-returns
+from_each-returns g t c =
     let doc = g.S.Tree.document c.args.source.now in
     c.from_vec.ensures ∙ gathers.gathered_whole doc c.args.rows.now c.loop-x.x-index (spec.walk_of doc c.args.step.now) c.loop-x.found.items c.ordered.result.items
     c.loop-x.invariant c.loop-x-test.false c.ordered.ensures.same c.ordered.ensures.order
@@ -259,3 +263,31 @@ value_at-returns-in_ok-args-in-Call-clause-rows g t c =
     let at = context c.args.place in
     lists.if_ok_from c.call.result (λ v. v ≡ called doc c.in-Call.func c.in_ok-args-in-Call.args at) (λ v. AreRows doc (rows_of v))
     (λ v is. subst (λ u. AreRows doc (rows_of u)) (sym is) (gathers.called_run doc c.in-Call.func c.in_ok-args-in-Call.args at)) c.call.ensures
+
+-- ---- shorter ways
+
+pub after-returns-then-is_covered_step : goal.after-returns-then-is_covered_step
+after-returns-then-is_covered_step g t c =
+    let doc = g.S.Tree.document c.args.source.now in
+    let s = c.args.step.now in
+    let w = spec.walk_of doc s in
+    subst (λ v. IfOk c.from_each.result (λ found. found ≡ v))
+    (ap (λ v. spec.rows_in doc v w) c.as_slice.ensures.value
+    ∙ covering.covered_rows doc s c.args.rows.now c.in_ok-few.few.items (c.is_covered_step.ensures c.if-is_covered_step.true) c.in_ok-few.ensures.covers)
+    c.from_each.ensures
+
+pub kept-returns-in-Number : goal.kept-returns-in-Number
+kept-returns-in-Number g t c =
+    let doc = g.S.Tree.document c.args.source.now in
+    let rows = c.args.rows.now.items in
+    c.only.ensures ∙ kept.kept_from_same (λ at. Num (whole c.in-Number.n)) (spec.denote doc c.args.predicate.now) (λ at. sym (eqs.at_number doc c.in-Number.n at) ∙ sym (ap (λ x. spec.denote doc x at) c.in-Number.is))
+    (length rows) 1 rows
+
+pub value_at-returns-in-Some-clause-value : goal.value_at-returns-in-Some-clause-value
+value_at-returns-in-Some-clause-value g t c =
+    let doc = g.S.Tree.document c.args.source.now in
+    let at = context c.args.place in
+    ap Num c.axis_number.ensures
+    ∙ sym (counting.counted doc c.in-Call.es c.in-Some.step.now at (subst (λ v. IsLoneStep v c.in-Some.step.now) c.as_slice-then-is_count.ensures c.in-Some.ensures))
+    ∙ sym (ap (λ f. called doc f (map (λ x. spec.denote doc x at) c.in-Call.es) at) (c.is_count.ensures c.if-is_count.true))
+    ∙ sym (eqs.at_call doc c.in-Call.func c.in-Call.es at) ∙ sym (ap (λ x. spec.denote doc x at) c.in-Call.is)

@@ -50,8 +50,8 @@ invariant-path-loop-step g l =
       below : AllBelow (length doc) l.rows
     }
 
-abbrev pub invariant-after-loop-x : goal.invariant-after-loop-x
-invariant-after-loop-x g l =
+abbrev pub invariant-from_each-loop-x : goal.invariant-from_each-loop-x
+invariant-from_each-loop-x g l =
     let doc = g.S.Tree.document l.source in Gathered (length doc) (take l.x-index l.rows) (spec.walk_of doc l.step) l.found.items
 
 abbrev pub invariant-filtered-loop-predicate : goal.invariant-filtered-loop-predicate
@@ -63,10 +63,10 @@ invariant-filtered-loop-predicate g l =
       few : length l.rows.items ≤ length doc
     }
 
-abbrev pub invariant-kept-loop-position : goal.invariant-kept-loop-position
-invariant-kept-loop-position g l =
+abbrev pub invariant-tried-loop-position : goal.invariant-tried-loop-position
+invariant-tried-loop-position g l =
     let doc = g.S.Tree.document l.source in
     Keeping (length doc) (spec.denote doc l.predicate) l.size l.fn.rows.items l.rows.items l.position l.end
 
-abbrev pub decreases-kept-loop-position : goal.decreases-kept-loop-position
-decreases-kept-loop-position g l = l.size - l.position
+abbrev pub decreases-tried-loop-position : goal.decreases-tried-loop-position
+decreases-tried-loop-position g l = l.size - l.position
