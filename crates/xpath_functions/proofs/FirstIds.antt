@@ -4,6 +4,7 @@ use Rattle.std.specs.Prelude.{filter}
 use Rattle.std.specs.List.{list_any, range_with_len}
 use Rattle.std.specs.Str.{bytes_eq}
 use Rattle.std.proofs.lemmas.Bool.{eq-eqb, ne_eqb}
+use Rattle.std.proofs.lemmas.List.{append-nil}
 use Rattle.std.proofs.lemmas.List.Folds.{list_any-append}
 use Rattle.std.proofs.lemmas.Slice.Eq.{bytes_eq-Decides}
 use Rattle.doc_model.specs.Document.{Document, row, rows, is_element}
@@ -85,8 +86,19 @@ fewer p y a b new h e =
     ∙ ap (λ v. a && not v) (sym (ap (list_any p) (range_split y 1 0) ∙ list_any-append p (range_with_len 0 y) (range_with_len (0 + y) 1) ∙ ap (λ n. list_any p (range_with_len 0 y) || (p n || false)) (zero-add y)))
 
 pub none_id : (h : List ℕ → Bool) (earlier : List ℕ → Bool) (ws : List (List ℕ)) → ((w : List ℕ) → h w ≡ false) → list_any (λ w. h w && not (earlier w)) ws ≡ false
-none_id h earlier [] no = refl
-none_id h earlier (w ∷ ws) no = ap (λ b. (b && not (earlier w)) || list_any (λ w. h w && not (earlier w)) ws) (no w) ∙ none_id h earlier ws no
+none_id h earlier [] never = refl
+none_id h earlier (w ∷ ws) never = ap (λ b. (b && not (earlier w)) || list_any (λ w. h w && not (earlier w)) ws) (never w) ∙ none_id h earlier ws never
+
+-- ---- the rows so far
+
+pub kept : (p : ℕ → Bool) (y : ℕ) (found new : List ℕ) → p y ≡ true → found ≡ filter p (range_with_len 0 y) → new ≡ found ++ y ∷ [] → new ≡ filter p (range_with_len 0 (y + 1))
+kept p y found new h e n =
+    n ∙ ap (λ v. v ++ y ∷ []) e ∙ ap (λ b. filter p (range_with_len 0 y) ++ cond b (y ∷ []) []) (sym h)
+    ∙ sym (upto_more p y (y + 1) (omega arith) (λ z l k. absurd (omega (arith, l, k))))
+
+pub passed : (p : ℕ → Bool) (y : ℕ) (found new : List ℕ) → p y ≡ false → found ≡ filter p (range_with_len 0 y) → new ≡ found → new ≡ filter p (range_with_len 0 (y + 1))
+passed p y found new h e n =
+    n ∙ e ∙ sym (upto_more p y (y + 1) (omega arith) (λ z l k. absurd (omega (arith, l, k))) ∙ ap (λ b. filter p (range_with_len 0 y) ++ cond b (y ∷ []) []) h ∙ append-nil (filter p (range_with_len 0 y)))
 
 or_and : (a b c : Bool) → ((a && c) || (b && c)) ≡ ((a || b) && c)
 or_and true b true = refl

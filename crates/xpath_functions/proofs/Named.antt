@@ -74,8 +74,8 @@ none doc name y e d ends before = upto_none (is_named doc name y) (length doc) a
     all k l = elim (cases_lt k e) [
       | inl h ↦ none_ahead doc name y e d before k h
       | inr h ↦ false_from_ne_true _ (λ i.
-        let two = and_parts _ _ i in
-        let on : on_axis doc axis.Attribute y k ≡ true = both_true (is_attribute doc k) (is_parent doc y k) two.0 (and_parts _ _ two.1).0 in
-        let off : on_axis doc axis.Attribute y k ≡ false = (attribute_walk doc y e d ends).after k h l in
-        cc)
+          let two = and_parts _ _ i in
+          let on : on_axis doc axis.Attribute y k ≡ true = both_true (is_attribute doc k) (is_parent doc y k) two.0 (and_parts _ _ two.1).0 in
+          let off : on_axis doc axis.Attribute y k ≡ false = (attribute_walk doc y e d ends).after k h l in
+          cc)
     ]

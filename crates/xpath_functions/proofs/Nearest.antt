@@ -45,9 +45,9 @@ pub nearest : (doc : Document) (x : List ℕ) (c y z : ℕ) → y < length doc �
 nearest doc x c y z l o e after =
     let this : here doc c y ≡ true = both _ _ (over doc y c o) (ap is_any e) in
     let list : filter (here doc c) (rows doc) ≡ filter (here doc c) (range_with_len 0 y) ++ y ∷ [] =
-        sym (upto_all (here doc c) (y + 1) (length doc) (omega arith) (λ k i j. after k (omega (arith, i)) j))
-        ∙ upto_more (here doc c) y (y + 1) (omega arith) (λ k i j. absurd (omega (arith, i, j)))
-        ∙ ap (λ b. filter (here doc c) (range_with_len 0 y) ++ cond b (y ∷ []) []) this in
+    sym (upto_all (here doc c) (y + 1) (length doc) (omega arith) (λ k i j. after k (omega (arith, i)) j))
+    ∙ upto_more (here doc c) y (y + 1) (omega arith) (λ k i j. absurd (omega (arith, i, j)))
+    ∙ ap (λ b. filter (here doc c) (range_with_len 0 y) ++ cond b (y ∷ []) []) this in
     ap (λ v. language_at doc x (reverse v)) list
     ∙ ap (language_at doc x) (reverse-append (filter (here doc c) (range_with_len 0 y)) (y ∷ []))
     ∙ ap (language_of doc x) e

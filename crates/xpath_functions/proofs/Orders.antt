@@ -181,7 +181,7 @@ module _ (doc : Document) where
       left c h NaN (extreme_of doc (not (goes_up c)) ys) xs
       ∙ ap (λ b. b || list_any (λ x. num_fits c (number_at x) (extreme_of doc (not (goes_up c)) ys)) xs) (nan_left c h (extreme_of doc (not (goes_up c)) ys))
       ∙ same_any (λ x. num_fits c (number_at x) (extreme_of doc (not (goes_up c)) ys)) (λ x. list_any (λ y. num_fits c (number_at x) (number_at y)) ys) xs
-        (λ x. right c h (number_at x) NaN ys ∙ ap (λ b. b || list_any (λ y. num_fits c (number_at x) (number_at y)) ys) (nan_right c h (number_at x)))
+      (λ x. right c h (number_at x) NaN ys ∙ ap (λ b. b || list_any (λ y. num_fits c (number_at x) (number_at y)) ys) (nan_right c h (number_at x)))
 
   pub orders : (c : Compare) → is_order c ≡ true → (xs ys : List ℕ) → num_fits c (extreme_of doc (goes_up c) xs) (extreme_of doc (not (goes_up c)) ys) ≡ fits doc c (Nodes xs) (Nodes ys)
   orders op.Less h xs ys = ordered op.Less h xs ys

@@ -91,7 +91,7 @@ shorter x y = omega (arith, ap (λ (v : List ℕ). length v) (encodes-append x y
 shorter_front : (x : List ℕ) (k : ℕ) → k < length x → length (encode_utf8_all (take k x)) < length (encode_utf8_all x)
 shorter_front x k l =
     let whole : length (encode_utf8_all (take k x ++ drop k x)) ≡ length (encode_utf8_all (take k x)) + length (encode_utf8_all (drop k x)) =
-        ap (λ (v : List ℕ). length v) (encodes-append (take k x) (drop k x)) ∙ length-append (encode_utf8_all (take k x)) (encode_utf8_all (drop k x)) in
+    ap (λ (v : List ℕ). length v) (encodes-append (take k x) (drop k x)) ∙ length-append (encode_utf8_all (take k x)) (encode_utf8_all (drop k x)) in
     let same : length (encode_utf8_all (take k x ++ drop k x)) ≡ length (encode_utf8_all x) = ap (λ (v : List ℕ). length (encode_utf8_all v)) (take-append-drop k x) in
     omega (arith, length-le-encodes (drop k x), length-drop k x)
 
@@ -127,7 +127,7 @@ not_found_chars n s u w h = place_none (chars n) (chars s) (λ k l. lacks_chars 
     within : (k : ℕ) → length (encode_utf8_all (take k (chars s))) ≤ length s
     within k =
         let all : length (encode_utf8_all (take k (chars s) ++ drop k (chars s))) ≡ length s =
-            ap (λ (v : List ℕ). length (encode_utf8_all v)) (take-append-drop k (chars s)) ∙ ap (λ (v : List ℕ). length v) (encodes-chars s w) in
+        ap (λ (v : List ℕ). length (encode_utf8_all v)) (take-append-drop k (chars s)) ∙ ap (λ (v : List ℕ). length v) (encodes-chars s w) in
         omega (arith, shorter (take k (chars s)) (drop k (chars s)))
 
 -- ---- what the functions give there
@@ -137,9 +137,10 @@ abbrev pub Splits : List ℕ → List ℕ → List ℕ → List ℕ → Type 0
 Splits n s front back = (i : ℕ) × (j : ℕ) × FindsText n s (Some (i, j)) × (front ≡ take i s) × (back ≡ drop j s) × (i ≤ j) × (length front ≡ i) × (length back + j ≡ length s)
 
 split_parts : (n s front back : List ℕ) → Splits n s front back → (s ≡ front ++ (n ++ back)) × ((k : ℕ) → k < length front → LacksTextAt n s k)
-split_parts n s front back h =
-    (sym (take-append-drop h.0 s) ∙ ap (λ v. take h.0 s ++ v) h.2.1.split ∙ ap (λ v. v ++ (n ++ drop h.1 s)) (sym h.3) ∙ ap (λ v. front ++ (n ++ v)) (sym h.4),
-    λ k l. h.2.0 k (omega (arith, h.6)))
+split_parts n s front back h = (
+  sym (take-append-drop h.0 s) ∙ ap (λ v. take h.0 s ++ v) h.2.1.split ∙ ap (λ v. v ++ (n ++ drop h.1 s)) (sym h.3) ∙ ap (λ v. front ++ (n ++ v)) (sym h.4),
+  λ k l. h.2.0 k (omega (arith, h.6)),
+)
 
 -- what stands before the other text is text
 split_utf8 : (n s front back : List ℕ) → IsUtf8 n → IsUtf8 s → Splits n s front back → IsUtf8 front

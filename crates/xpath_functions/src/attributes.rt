@@ -23,8 +23,7 @@ fn is_named<T: Tree>(tree: &T, y: u32, z: u32, name: &str) -> bool
     requires attribute { is_attribute (T.document tree.now) z ≡ true }
     ensures { result ≡ spec.is_named (T.document tree.now) (chars name.now) y z }
 {
-    tree.parent(z) == y
-        && compare_atoms(Compare::Equal, Atom::Str(tree.name(z)), Atom::Str(name))
+    tree.parent(z) == y && compare_atoms(Compare::Equal, Atom::Str(tree.name(z)), Atom::Str(name))
 }
 
 /// The attribute of a row that has the name. The attributes of a row stand behind it.

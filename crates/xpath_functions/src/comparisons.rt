@@ -153,12 +153,7 @@ fn extreme(least: bool, a: XNum, b: XNum) -> XNum
 }
 
 /// The least or the greatest of the numbers of the rows; NaN where no row has a number.
-fn extreme_of<T: Tree>(
-    alloc: Global,
-    tree: &T,
-    least: bool,
-    rows: &[u32],
-) -> Result<XNum, NoMemory>
+fn extreme_of<T: Tree>(alloc: Global, tree: &T, least: bool, rows: &[u32]) -> Result<XNum, NoMemory>
     requires { AreRows (T.document tree.now) rows.now }
     ensures { IfOk result (λ n. n ≡ extremes.extreme_of (T.document tree.now) least rows.now) }
 {

@@ -41,11 +41,7 @@ fn words_of_rows<T: Tree>(alloc: Global, tree: &T, rows: &[u32]) -> Result<Seq<T
 }
 
 /// The words of a value: of a node-set, those of each row.
-pub fn words_of_value<T: Tree>(
-    alloc: Global,
-    tree: &T,
-    value: &Value,
-) -> Result<Seq<Txt>, NoMemory>
+pub fn words_of_value<T: Tree>(alloc: Global, tree: &T, value: &Value) -> Result<Seq<Txt>, NoMemory>
     requires { IsWithin (T.document tree.now) value.now }
     ensures { IfOk result (λ v. v ≡ functions.id_words (T.document tree.now) value.now) }
 {

@@ -18,7 +18,11 @@ fn is_language(alloc: Global, wanted: &str, language: &str) -> Result<bool, NoMe
 {
     let low = lower_ascii(alloc, language)?;
     let mut start = lower_ascii(alloc, wanted)?;
-    if compare_atoms(Compare::Equal, Atom::Str(low.as_str()), Atom::Str(start.as_str())) {
+    if compare_atoms(
+        Compare::Equal,
+        Atom::Str(low.as_str()),
+        Atom::Str(start.as_str()),
+    ) {
         return Ok(true);
     }
     start.push_str("-")?;

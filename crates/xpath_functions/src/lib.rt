@@ -14,6 +14,8 @@ mod numbers;
 mod parts;
 mod sets;
 mod strings;
+#[cfg(test)]
+mod tests;
 mod texts;
 
 pub use calls::call;

@@ -82,12 +82,7 @@ fn first_name<T: Tree>(alloc: Global, tree: &T, rows: &[u32]) -> Result<Txt, NoM
 }
 
 /// `name`
-pub fn name<T: Tree>(
-    alloc: Global,
-    tree: &T,
-    args: &Seq<Value>,
-    node: u32,
-) -> Result<Txt, NoMemory>
+pub fn name<T: Tree>(alloc: Global, tree: &T, args: &Seq<Value>, node: u32) -> Result<Txt, NoMemory>
     requires row { node < length (T.document tree.now) }
     requires rows { AreWithin (T.document tree.now) args.now }
     ensures { IfOk result (λ t. t ≡ first_name (T.document tree.now) (rows_of (arg 0 args.now (Nodes (node ∷ []))))) }

@@ -74,11 +74,7 @@ pub fn substring_before<T: Tree>(
 }
 
 /// `substring-after`
-pub fn substring_after<T: Tree>(
-    alloc: Global,
-    tree: &T,
-    args: &Seq<Value>,
-) -> Result<Txt, NoMemory>
+pub fn substring_after<T: Tree>(alloc: Global, tree: &T, args: &Seq<Value>) -> Result<Txt, NoMemory>
     requires { AreWithin (T.document tree.now) args.now }
     ensures { IfOk result (λ t. t ≡ strings.str_after (spec.text_of (T.document tree.now) (arg 0 args.now (Nodes []))) (spec.text_of (T.document tree.now) (arg 1 args.now (Nodes [])))) }
 {
@@ -95,7 +91,10 @@ pub fn substring<T: Tree>(alloc: Global, tree: &T, args: &Seq<Value>) -> Result<
     let text = text_at(alloc, tree, args, 0)?;
     match args.as_slice() {
         [] | [_] => Txt::of(alloc, nothing()),
-        [_, from] => Txt::of(alloc, part_from(text.as_str(), number_of(alloc, tree, from)?)),
+        [_, from] => Txt::of(
+            alloc,
+            part_from(text.as_str(), number_of(alloc, tree, from)?),
+        ),
         [_, from, len, ..] => {
             let from = number_of(alloc, tree, from)?;
             let len = number_of(alloc, tree, len)?;

@@ -89,11 +89,7 @@ pub fn row_text<'a, T: Tree>(alloc: Global, tree: &'a T, i: u32) -> Result<Text<
 }
 
 /// The string value of the first row, or the empty text.
-fn first_text<'a, T: Tree>(
-    alloc: Global,
-    tree: &'a T,
-    rows: &[u32],
-) -> Result<Text<'a>, NoMemory>
+fn first_text<'a, T: Tree>(alloc: Global, tree: &'a T, rows: &[u32]) -> Result<Text<'a>, NoMemory>
     requires { AreRows (T.document tree.now) rows.now }
     ensures { IfOk result (λ t. chars_of t ≡ spec.text_of_rows (T.document tree.now) rows.now) }
 {

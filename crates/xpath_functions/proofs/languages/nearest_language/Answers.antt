@@ -37,5 +37,5 @@ pub returns-clause-says : goal.returns-clause-says
 returns-clause-says g c = λ x.
     let doc = g.T.Tree.document c.args.tree.now in
     let i = c.loop-y.invariant in
-    let named : attributes_named doc (codes "xml:lang") c.loop-y.y ≡ option_to_list c.attribute_named.result = ap (λ n. attributes_named doc n c.loop-y.y) (sym lang_chars) ∙ c.attribute_named.ensures.named in
-    topmost doc x c.args.node c.loop-y.y c.attribute_named.result (omega (arith, c.loop-y-test.false)) i.within i.over named i.after
+    let named : attributes_named doc (codes "xml:lang") c.loop-y.y ≡ option_to_list c.attribute_named-2.result = ap (λ n. attributes_named doc n c.loop-y.y) (sym lang_chars) ∙ c.attribute_named-2.ensures.named in
+    topmost doc x c.args.node c.loop-y.y c.attribute_named-2.result (omega (arith, c.loop-y-test.false)) i.within i.over named i.after
