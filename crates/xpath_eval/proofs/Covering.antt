@@ -120,8 +120,8 @@ module _ (doc : Document) where
       same_truth _ _
       (λ h. let m = any_member (λ x. has y (walk_of doc s x)) few h in member_any (λ x. has y (walk_of doc s x)) all m.0 (c.some m.0 m.1) m.2)
       (λ h. let m = any_member (λ x. has y (walk_of doc s x)) all h in
-          let z = c.all m.0 m.1 in
-          member_any (λ x. has y (walk_of doc s x)) few z.0 z.1 (covered_row s m.0 z.0 y e there z.2 m.2)))
+      let z = c.all m.0 m.1 in
+      member_any (λ x. has y (walk_of doc s x)) few z.0 z.1 (covered_row s m.0 z.0 y e there z.2 m.2)))
 
   -- ---- the loop that leaves rows out
 

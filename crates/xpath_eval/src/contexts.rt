@@ -96,12 +96,7 @@ fn push_if(rows: &mut Vec<u32>, x: u32, wanted: bool) -> Result<(), NoMemory>
 }
 
 /// The rows without those that add nothing to the last one before them that is left.
-fn fewer<T: Tree>(
-    alloc: Global,
-    tree: &T,
-    axis: Axis,
-    rows: &[u32],
-) -> Result<Vec<u32>, NoMemory>
+fn fewer<T: Tree>(alloc: Global, tree: &T, axis: Axis, rows: &[u32]) -> Result<Vec<u32>, NoMemory>
     requires { AllBelow (length (T.document tree.now)) rows.now }
     ensures covers { IfOk result (λ few. Covers (T.document tree.now) axis rows.now few.items) }
     ensures below { IfOk result (λ few. AllBelow (length (T.document tree.now)) few.items) }

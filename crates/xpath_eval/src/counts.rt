@@ -11,8 +11,7 @@ ghost use Rattle.xpath_eval.specs.Steps.{IsLoneStep, IsOnlyStep};
 use crate::forms::put_if;
 use doc_model::Axes;
 use xpath_parser::{Expr, Func, Start, Step};
-use xpath_values::XNum;
-use xpath_values::whole;
+use xpath_values::{XNum, whole};
 
 pub fn is_count(func: Func) -> bool
     ensures { IsTrue result → func ≡ f.Count }

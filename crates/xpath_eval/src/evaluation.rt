@@ -10,7 +10,9 @@ ghost use Rattle.xpath_eval.specs.Rows.{AreRows, AllBelow};
 
 use crate::contexts::{covering, is_covered_step};
 use crate::counts::{axis_number, is_count, lone_step, only};
-use crate::forms::{applied, axis_rows, keeps, literal_number, nodes, put_if, rows_of_nodes, signed};
+use crate::forms::{
+    applied, axis_rows, keeps, literal_number, nodes, put_if, rows_of_nodes, signed,
+};
 use crate::ordering::{add, add_list, ordered};
 use crate::place::Place;
 use doc_model::Axes;
@@ -61,7 +63,15 @@ pub fn value_at<S: Axes>(
                 }
             }
             let args = values(alloc, source, es.as_slice(), place)?;
-            call(alloc, source, *func, &args, place.row, place.position, place.size)
+            call(
+                alloc,
+                source,
+                *func,
+                &args,
+                place.row,
+                place.position,
+                place.size,
+            )
         }
     }
 }
@@ -87,12 +97,7 @@ fn values<S: Axes>(
 
 /// Whether one of the expressions is true.
 #[cycle(evaluation)]
-fn any<S: Axes>(
-    alloc: Global,
-    source: &S,
-    es: &[Expr],
-    place: Place,
-) -> Result<bool, NoMemory>
+fn any<S: Axes>(alloc: Global, source: &S, es: &[Expr], place: Place) -> Result<bool, NoMemory>
     requires { place.row < length (S.document source.now) }
     ensures { IfOk result (λ b. b ≡ list_any (λ e. conversions.truth_of (spec.denote (S.document source.now) e (context place))) es.now) }
 {
@@ -107,12 +112,7 @@ fn any<S: Axes>(
 
 /// Whether all of the expressions are true.
 #[cycle(evaluation)]
-fn all<S: Axes>(
-    alloc: Global,
-    source: &S,
-    es: &[Expr],
-    place: Place,
-) -> Result<bool, NoMemory>
+fn all<S: Axes>(alloc: Global, source: &S, es: &[Expr], place: Place) -> Result<bool, NoMemory>
     requires { place.row < length (S.document source.now) }
     ensures { IfOk result (λ b. b ≡ list_all (λ e. conversions.truth_of (spec.denote (S.document source.now) e (context place))) es.now) }
 {
@@ -165,7 +165,8 @@ fn union<S: Axes>(
         let rows = nodes(alloc, value);
         found = add(found, rows.as_slice(), most)?;
     }
-    Ok(Seq::from_vec(ordered(found)))
+    let rows = ordered(found);
+    Ok(Seq::from_vec(rows))
 }
 
 /// The rows where a path starts.
@@ -248,12 +249,7 @@ fn from_each<S: Axes>(
 
 /// The rows of a step from one row, in the order of its axis.
 #[cycle(evaluation)]
-fn walk<S: Axes>(
-    alloc: Global,
-    source: &S,
-    x: u32,
-    step: &Step,
-) -> Result<Vec<u32>, NoMemory>
+fn walk<S: Axes>(alloc: Global, source: &S, x: u32, step: &Step) -> Result<Vec<u32>, NoMemory>
     requires { x < length (S.document source.now) }
     ensures { IfOk result (λ rows. rows.items ≡ spec.walk_of (S.document source.now) step.now x) }
 {
@@ -333,7 +329,16 @@ fn tried<S: Axes>(
     while position < size {
         let row = rows[position as usize];
         position += 1;
-        let value = value_at(alloc, source, predicate, Place { row, position, size })?;
+        let value = value_at(
+            alloc,
+            source,
+            predicate,
+            Place {
+                row,
+                position,
+                size,
+            },
+        )?;
         end = put_if(rows, end, row, keeps(position, &value));
     }
     rows.truncate(end);

@@ -76,11 +76,7 @@ pub fn literal_number(n: &i64) -> XNum
 pub fn signed(signs: u32, number: XNum) -> XNum
     ensures { result ≡ spec.signed signs number }
 {
-    if signs % 2 == 0 {
-        number
-    } else {
-        neg(number)
-    }
+    if signs % 2 == 0 { number } else { neg(number) }
 }
 
 /// The value of an operator between two values, XPath 1.0, sections 3.4 and 3.5.

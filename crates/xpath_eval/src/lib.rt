@@ -10,3 +10,6 @@ mod place;
 mod top;
 
 pub use top::eval;
+
+#[cfg(test)]
+mod tests;

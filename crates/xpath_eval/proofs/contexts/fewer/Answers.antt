@@ -22,5 +22,5 @@ loop-x-preserved g c =
     let covered : not c.is_covered-wanted.result ≡ false → IsCovered doc c.args.axis c.loop-x.few.items x =
     λ told. subst (λ v. IsCovered doc c.args.axis v x) c.as_slice.ensures.value (c.is_covered-wanted.ensures (covering.not_false_true _ told)) in
     let more = subst (λ v. Covers doc c.args.axis v c.push_if.new.rows.items) (sym (take_more xs i 0 c.loop-x-test.true))
-        (covering.covers_more doc c.args.axis (take i xs) c.loop-x.few.items c.push_if.new.rows.items x (not c.is_covered-wanted.result) c.loop-x.invariant.covers covered c.in_ok-push_if.ensures) in
+    (covering.covers_more doc c.args.axis (take i xs) c.loop-x.few.items c.push_if.new.rows.items x (not c.is_covered-wanted.result) c.loop-x.invariant.covers covered c.in_ok-push_if.ensures) in
     record { covers = more; below = covering.covers_below doc c.args.axis (length doc) (take (i + 1) xs) c.push_if.new.rows.items more (covering.all_take (i + 1) (length doc) xs c.requires) }

@@ -63,8 +63,8 @@ pub union-returns : goal.union-returns
 union-returns g t c =
     let doc = g.S.Tree.document c.args.source.now in
     let w : Expr → List ℕ = λ x. rows_of (spec.denote doc x (context c.args.place)) in
-    c.from_vec.ensures ∙ gathers.gathered_whole doc c.args.es.now c.loop-e.e-index w c.loop-e.found.items c.ordered.result.items
-    c.loop-e.invariant c.loop-e-test.false c.ordered.ensures.same c.ordered.ensures.order
+    c.from_vec.ensures ∙ gathers.gathered_whole doc c.args.es.now c.loop-e.e-index w c.loop-e.found.items c.ordered-rows.result.items
+    c.loop-e.invariant c.loop-e-test.false c.ordered-rows.ensures.same c.ordered-rows.ensures.order
 
 pub filtered-loop-predicate-preserved : goal.filtered-loop-predicate-preserved
 filtered-loop-predicate-preserved g t c =

@@ -33,7 +33,7 @@ invariant-joined-loop-operand g l =
     let arm = λ (o : Operand). spec.arm_at doc o (context l.place) in
     record {
       value : spec.joined doc l.value (map arm (drop l.operand-index l.operands)) ≡ spec.joined doc l.fn.first (map arm l.operands);
-      rows : AreRows doc (conversions.rows_of l.value)
+      rows : AreRows doc (conversions.rows_of l.value);
     }
 
 abbrev pub invariant-union-loop-e : goal.invariant-union-loop-e
@@ -47,7 +47,7 @@ invariant-path-loop-step g l =
     record {
       path : spec.path doc l.rows (map (spec.walk_of doc) (drop l.step-index l.steps)) ≡ spec.path doc l.fn.start (map (spec.walk_of doc) l.steps);
       rows : AreRows doc l.rows;
-      below : AllBelow (length doc) l.rows
+      below : AllBelow (length doc) l.rows;
     }
 
 abbrev pub invariant-from_each-loop-x : goal.invariant-from_each-loop-x
@@ -60,7 +60,7 @@ invariant-filtered-loop-predicate g l =
     record {
       kept : spec.kept (map (spec.denote doc) (drop l.predicate-index l.predicates)) l.rows.items ≡ spec.kept (map (spec.denote doc) l.predicates) l.fn.rows.items;
       below : AllBelow (length doc) l.rows.items;
-      few : length l.rows.items ≤ length doc
+      few : length l.rows.items ≤ length doc;
     }
 
 abbrev pub invariant-tried-loop-position : goal.invariant-tried-loop-position
