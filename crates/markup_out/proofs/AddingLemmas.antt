@@ -1,5 +1,5 @@
 -- What calls add to an output, one behind the other.
-use Rattle.std.proofs.Common.{◌≡◌, ℕ, ◌+◌, ◌<◌, ◌≤◌, List, [], ◌++◌, length, true, false, refl, sym, ◌∙◌, ap, subst, arith, string_bytes, encode_utf8_all, append_assoc, length-append, Ok, Err, Result, OnOk}
+use Rattle.std.proofs.Common.{◌≡◌, ℕ, ◌+◌, ◌<◌, List, [], ◌++◌, length, true, false, refl, sym, ◌∙◌, ap, subst, arith, string_bytes, encode_utf8_all, append_assoc, length-append, Ok, Err, Result, OnOk}
 use Rattle.std.specs.Bool.{MatchBool}
 use Rattle.std.proofs.lemmas.List.{append-nil}
 use Rattle.std.proofs.lemmas.Str.{encodes-append}

@@ -1,16 +1,14 @@
 -- The attributes of an element stand directly behind it.
-use Rattle.std.proofs.Common.{◌≡◌, ℕ, ◌+◌, ◌-◌, ◌<◌, ◌≤◌, List, [], ◌∷◌, ◌++◌, length, Bool, true, false, ◌&&◌, cond, eqb, refl, sym, ◌∙◌, ap, subst, arith, inl, inr, ◌⊎◌}
+use Rattle.std.proofs.Common.{◌≡◌, ℕ, ◌+◌, ◌-◌, ◌<◌, ◌≤◌, List, [], ◌∷◌, ◌++◌, length, Bool, true, false, cond, eqb, sym, ◌∙◌, ap, subst, arith, inl, inr, ◌⊎◌}
 use Rattle.std.specs.Prelude.{filter, flat_map}
 use Rattle.std.specs.List.{range_with_len}
 use Rattle.std.proofs.lemmas.Bool.{and_parts, and_right, or_cases, cases_lt, eqb-true, eq-eqb, both_ways, lt-ltb}
 use Rattle.std.proofs.lemmas.List.{append-nil}
 use Rattle.std.proofs.lemmas.List.Concat.{flat_map-append}
 use Rattle.doc_model.specs.declared.Axis.TheVariants as axis
-use Rattle.doc_model.specs.declared.Kind.TheVariants.{Root, Element, Attribute}
-use Rattle.doc_model.specs.declared.Kind.{Kind}
+use Rattle.doc_model.specs.declared.Kind.TheVariants.{Element}
 use Rattle.doc_model.specs.Axes.{on_axis}
-use Rattle.doc_model.specs.Document.{Row, Document, row, rows, is_parent, is_attribute, is_attribute_kind, IsDocument}
-use Rattle.doc_model.specs.Walks.{EndsAttributes}
+use Rattle.doc_model.specs.Document.{Document, row, is_parent, is_attribute, is_attribute_kind, IsDocument}
 use Rattle.doc_model.proofs.AxisWalks.{attribute_kind, attribute_walk, not_parent, true_and}
 use Rattle.doc_model.proofs.Below.{small}
 use Rattle.doc_model.proofs.Filters.{upto_more, upto_none, upto_all}

@@ -1,20 +1,20 @@
 -- Where the content of a row begins, and where the next row of it stands.
-use Rattle.std.proofs.Common.{◌≡◌, ℕ, ◌+◌, ◌-◌, ◌<◌, ◌≤◌, List, [], ◌∷◌, ◌++◌, length, Bool, true, false, ◌&&◌, cond, eqb, refl, sym, ◌∙◌, ap, subst, arith, inl, inr, ◌⊎◌}
+use Rattle.std.proofs.Common.{◌≡◌, ℕ, ◌+◌, ◌-◌, ◌<◌, ◌≤◌, List, [], ◌++◌, length, Bool, true, false, cond, eqb, refl, sym, ◌∙◌, ap, subst, arith, inl, inr, ◌⊎◌}
 use Rattle.std.specs.Prelude.{filter, flat_map, not}
 use Rattle.std.specs.List.{range_with_len}
-use Rattle.std.proofs.lemmas.Bool.{and_parts, and_right, or_cases, cases_lt, eqb-true, eq-eqb, both_ways, false_from_ne_true, lt-ltb}
+use Rattle.std.proofs.lemmas.Bool.{and_parts, or_cases, cases_lt, eqb-true, eq-eqb, both_ways, false_from_ne_true, lt-ltb}
 use Rattle.std.proofs.lemmas.List.{append-nil}
 use Rattle.doc_model.specs.declared.Axis.TheVariants as axis
 use Rattle.doc_model.specs.declared.Kind.TheVariants.{Root, Element, Attribute, Text, Comment}
 use Rattle.doc_model.specs.declared.Kind.{Kind}
 use Rattle.doc_model.specs.Axes.{on_axis}
-use Rattle.doc_model.specs.Document.{Row, Document, row, rows, below, is_parent, is_attribute, is_attribute_kind, IsDocument}
+use Rattle.doc_model.specs.Document.{Document, row, below, is_parent, is_attribute, is_attribute_kind, IsDocument}
 use Rattle.doc_model.specs.Ends.{IsEnd}
-use Rattle.doc_model.proofs.AxisWalks.{attribute_kind, child_walk, not_parent, parent_from, true_and}
-use Rattle.doc_model.proofs.Below.{Small, small, below_cases, below_less, below_parent, below_up, below_trans, below_line, before_end, past_end, not_up}
-use Rattle.doc_model.proofs.Filters.{upto, upto_none, none_in, from_to}
+use Rattle.doc_model.proofs.AxisWalks.{attribute_kind, child_walk, true_and}
+use Rattle.doc_model.proofs.Below.{Small, small, below_cases, below_less, below_parent}
+use Rattle.doc_model.proofs.Filters.{upto, upto_none, none_in}
 use Rattle.markup_out.specs.Content.{before, after, after_of, before_of, content_from, IsNextChild, EndsOwn, Begins}
-use Rattle.markup_out.specs.Markup.{children, attributes, start_tag, end_tag, markup_of, markup}
+use Rattle.markup_out.specs.Markup.{children, start_tag, end_tag, markup_of, markup}
 use Rattle.markup_out.specs.Names.{is_void}
 use Rattle.markup_out.proofs.Levels.{child_behind, markup_of_children}
 
@@ -121,10 +121,13 @@ root_next doc x d h k (inl l) =
     let first : x ≡ 0 = root_is_first doc x d h k in
     let up : (row doc (x + 1)).parent < x + 1 = small doc d (x + 1) (omega arith) in
     let parent_is : (row doc (x + 1)).parent ≡ x = omega arith in
-    inl (on_child doc x (x + 1) (omega arith)
-    (false_from_ne_true _ (λ a. let element = ((d.rest (x + 1) (omega arith) l).attribute (attribute_kind _ a)).1 in
-    let root : (row doc (row doc (x + 1)).parent).kind ≡ Root = subst (λ v. (row doc v).kind ≡ Root) (sym parent_is) k in (let e = sym root ∙ element in cc)))
-    parent_is, l)
+    inl (
+      on_child doc x (x + 1) (omega arith)
+          (false_from_ne_true _ (λ a. let element = ((d.rest (x + 1) (omega arith) l).attribute (attribute_kind _ a)).1 in
+          let root : (row doc (row doc (x + 1)).parent).kind ≡ Root = subst (λ v. (row doc v).kind ≡ Root) (sym parent_is) k in (let e = sym root ∙ element in cc)))
+          parent_is,
+      l,
+    )
 root_next doc x d h k (inr l) = inr (record {
   after = omega arith;
   within = omega arith;

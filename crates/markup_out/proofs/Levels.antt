@@ -1,10 +1,9 @@
 -- How many levels are looked at makes no difference where they are enough.
-use Rattle.std.proofs.Common.{◌≡◌, ℕ, zero, suc, ◌+◌, ◌-◌, ◌<◌, ◌≤◌, List, [], ◌∷◌, ◌++◌, length, Bool, true, false, cond, refl, sym, ◌∙◌, ap, subst, arith}
+use Rattle.std.proofs.Common.{◌≡◌, ℕ, zero, suc, ◌-◌, ◌<◌, ◌≤◌, List, [], ◌∷◌, ◌++◌, length, Bool, true, false, cond, refl, sym, ◌∙◌, ap, arith}
 use Rattle.std.specs.Prelude.{filter, flat_map}
 use Rattle.std.proofs.lemmas.Bool.{and_parts, ltb-true, eqb-true}
 use Rattle.std.proofs.lemmas.List.{get_or_past}
 use Rattle.doc_model.specs.declared.Axis.TheVariants as axis
-use Rattle.doc_model.specs.declared.Kind.{Kind}
 use Rattle.doc_model.specs.Axes.{on_axis}
 use Rattle.doc_model.specs.Document.{Row, Document, no_row, row, rows, IsDocument}
 use Rattle.doc_model.proofs.Below.{Small, small}

@@ -5,3 +5,4 @@ pub mod EscapeLemmas
 pub mod Levels
 pub mod NameLemmas
 pub mod OpenRows
+pub mod TestRows

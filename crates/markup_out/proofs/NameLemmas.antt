@@ -1,5 +1,5 @@
 -- ASCII texts and names are the same as bytes and as characters.
-use Rattle.std.proofs.Common.{◌≡◌, ℕ, ◌<◌, Bool, true, ◌&&◌, ◌||◌, ltb, List, [], ◌∷◌, refl, sym, ◌∙◌, ap, encode_utf8_all}
+use Rattle.std.proofs.Common.{◌≡◌, ℕ, ◌<◌, Bool, true, ◌||◌, ltb, List, [], ◌∷◌, refl, sym, ◌∙◌, ap, encode_utf8_all}
 use Rattle.std.specs.Prelude.{All}
 use Rattle.std.specs.List.{list_all}
 use Rattle.std.specs.Str.{chars, bytes_eq, IsAscii, IsUtf8}

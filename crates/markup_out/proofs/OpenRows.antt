@@ -1,15 +1,15 @@
 -- What is still to be written while the markup of a row is written.
-use Rattle.std.proofs.Common.{◌≡◌, ℕ, suc, ◌+◌, ◌-◌, ◌*◌, ◌<◌, ◌≤◌, List, [], ◌∷◌, ◌++◌, length, true, false, ◌&&◌, cond, refl, sym, ◌∙◌, ap, subst, arith, inl, inr, ◌⊎◌, append_assoc}
+use Rattle.std.proofs.Common.{◌≡◌, ℕ, ◌+◌, ◌-◌, ◌*◌, ◌<◌, ◌≤◌, List, [], ◌∷◌, ◌++◌, length, true, false, cond, refl, sym, ◌∙◌, ap, subst, arith, inl, inr, ◌⊎◌, append_assoc}
 use Rattle.std.specs.Prelude.{filter, flat_map}
 use Rattle.std.specs.List.{range_with_len}
-use Rattle.std.proofs.lemmas.Bool.{and_parts, or_cases, cases_lt, cases_eq, eqb-true, ltb-true, both_ways, false_from_ne_true}
+use Rattle.std.proofs.lemmas.Bool.{and_parts, cases_lt, cases_eq, ltb-true, both_ways, false_from_ne_true}
 use Rattle.std.proofs.lemmas.List.{append-nil}
 use Rattle.std.proofs.lemmas.List.Concat.{flat_map-append}
 use Rattle.doc_model.specs.declared.Axis.TheVariants as axis
 use Rattle.doc_model.specs.Axes.{on_axis}
 use Rattle.doc_model.specs.Document.{Document, row, below, is_attribute, IsDocument}
 use Rattle.doc_model.specs.Ends.{IsEnd}
-use Rattle.doc_model.proofs.AxisWalks.{attribute_kind, parent_from}
+use Rattle.doc_model.proofs.AxisWalks.{parent_from}
 use Rattle.doc_model.proofs.Below.{Small, small, below_cases, below_less, below_parent, below_up, below_trans, below_line, before_end}
 use Rattle.doc_model.proofs.Filters.{from_to, none_in, single}
 use Rattle.markup_out.specs.declared.output.Output.{Output}
@@ -213,9 +213,9 @@ next_sibling doc p x y e d child inside end outer (inr l) =
     let early : x < e = before_end doc p e x d outer inside under in
     elim (cases_lt e y) [
       | inl k ↦
-        let deep = below_trans doc p x e m under (end.inside e early k) in
-        let again : e < e = before_end doc p e e d outer (let w = end.within in omega arith) deep in
-        absurd (omega arith)
+          let deep = below_trans doc p x e m under (end.inside e early k) in
+          let again : e < e = before_end doc p e e d outer (let w = end.within in omega arith) deep in
+          absurd (omega arith)
       | inr k ↦ inr (let same_end : e ≡ y = omega arith in subst (λ v. IsEnd doc p v) same_end outer)
     ]
 

@@ -1,5 +1,5 @@
 -- What is written before and after the content of a row, and which of its children are still to be written.
-use Rattle.std.specs.Prelude.{◌≡◌, ℕ, ◌+◌, ◌-◌, ◌<◌, ◌≤◌, IsTrue, List, [], ◌++◌, ◌⊎◌, if◌then◌else◌, flat_map, filter, length}
+use Rattle.std.specs.Prelude.{◌≡◌, ℕ, ◌-◌, ◌<◌, ◌≤◌, IsTrue, List, [], ◌++◌, ◌⊎◌, if◌then◌else◌, flat_map, filter, length}
 use Rattle.std.specs.List.{range_with_len}
 use Rattle.doc_model.specs.declared.Axis.TheVariants as axis
 use Rattle.doc_model.specs.declared.Kind.{Kind}

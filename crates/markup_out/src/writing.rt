@@ -46,12 +46,7 @@ fn push_row<T: Tree>(tree: &T, i: u32, out: &mut Output) -> Result<(), NoMemory>
 
 /// The markup of the row, of at most `limit` bytes: of an element its tags and what is between them, of the root node
 /// the markup of its children, of an attribute its value. Where that has more bytes, it is `Limit`. HTML, section 13.3.
-pub fn markup<T: Tree>(
-    alloc: Global,
-    tree: &T,
-    i: u32,
-    limit: usize,
-) -> Result<String, TooLarge>
+pub fn markup<T: Tree>(alloc: Global, tree: &T, i: u32, limit: usize) -> Result<String, TooLarge>
     requires { i < length (T.document tree.now) }
     ensures chars { IfOk result (λ s. chars (string_bytes s) ≡ spec.markup (T.document tree.now) i) }
     ensures bytes { IfOk result (λ s. string_bytes s ≡ encode_utf8_all (spec.markup (T.document tree.now) i)) }

@@ -1,7 +1,6 @@
 use Rattle.std.proofs.Common.{sym, ap, ◌∙◌, encode_utf8_all}
 use Rattle.std.specs.Str.{chars}
 use Rattle.text_base.proofs.Text.{encode-chars}
-use Rattle.markup_out.specs.Escapes.{escaped}
 use Rattle.markup_out.proofs.AddingLemmas.{adds_last}
 use Rattle.markup_out.proofs.EscapeLemmas.{plain_escaped}
 use Rattle.markup_out.proofs.escapes.push_escaped.Goals as goal

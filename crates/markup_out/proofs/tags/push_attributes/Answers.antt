@@ -1,8 +1,7 @@
-use Rattle.std.proofs.Common.{◌≡◌, ◌+◌, ◌<◌, length, true, refl, sym, arith, ap, ◌∙◌}
+use Rattle.std.proofs.Common.{◌≡◌, ◌+◌, ◌<◌, length, true, refl, sym, arith, ◌∙◌}
 use Rattle.doc_model.specs.Document.{is_attribute}
-use Rattle.markup_out.specs.Markup.{attribute_markup, attributes}
 use Rattle.markup_out.proofs.AddingLemmas.{none, both, same}
-use Rattle.markup_out.proofs.AttributeRows.{attributes_before, attributes_start, attributes_passed, attributes_more, attributes_end, attributes_all}
+use Rattle.markup_out.proofs.AttributeRows.{attributes_start, attributes_passed, attributes_more, attributes_end, attributes_all}
 use Rattle.markup_out.proofs.tags.push_attributes.Goals as goal
 
 pub loop-r-init : goal.loop-r-init

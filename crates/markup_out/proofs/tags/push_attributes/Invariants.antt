@@ -1,5 +1,4 @@
-use Rattle.std.proofs.Common.{◌≤◌, ◌<◌, ◌-◌, ◌≡◌, length}
-use Rattle.doc_model.specs.Document.{row, is_attribute}
+use Rattle.std.proofs.Common.{◌≤◌, ◌<◌, ◌-◌}
 use Rattle.markup_out.specs.Adding.{Adds}
 use Rattle.markup_out.proofs.AttributeRows.{AreAttributes, attributes_before}
 use Rattle.markup_out.proofs.tags.push_attributes.Given as goal

@@ -1,9 +1,7 @@
-use Rattle.std.proofs.Common.{◌≡◌, ◌<◌, ◌≤◌, ◌-◌, ◌+◌, length, true, sym, ◌∙◌, arith, subst, ap}
-use Rattle.std.specs.Prelude.{ℕ}
+use Rattle.std.proofs.Common.{◌<◌, sym, ◌∙◌, arith, subst}
 use Rattle.doc_model.specs.Document.{row}
 use Rattle.doc_model.specs.Ends.{IsEnd}
-use Rattle.doc_model.proofs.Below.{small}
-use Rattle.markup_out.proofs.OpenRows.{Going, starts, next_child, opens, at_end, closes, closes_all, closed_parent, goes_on_over, open_less}
+use Rattle.markup_out.proofs.OpenRows.{Going, starts, next_child, opens, at_end, closes, closes_all, closed_parent, goes_on_over}
 use Rattle.markup_out.proofs.writing.push_row.Goals as goal
 
 pub rows-init : goal.rows-init

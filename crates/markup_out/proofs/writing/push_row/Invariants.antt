@@ -1,4 +1,4 @@
-use Rattle.std.proofs.Common.{◌≡◌, ◌<◌, ◌+◌, ◌-◌, ◌*◌, length}
+use Rattle.std.proofs.Common.{◌<◌, ◌+◌, ◌-◌, ◌*◌, length}
 use Rattle.doc_model.specs.Ends.{IsEnd}
 use Rattle.markup_out.proofs.OpenRows.{Going}
 use Rattle.markup_out.proofs.writing.push_row.Given as goal
