@@ -13,6 +13,7 @@ use Rattle.doc_model.proofs.Filters.{upto, upto_more}
 use Rattle.doc_model.proofs.Runs.{filter_run, run_le, range_split}
 use Rattle.xpath_parser.specs.Conversions.{is_any}
 use Rattle.xpath_parser.specs.Functions.{attributes_named, has_id, is_id, is_first}
+use Rattle.xpath_functions.proofs.Truths.{same_truth, same_any}
 use Rattle.xpath_functions.specs.Attributes.{is_value}
 
 -- ---- the first of those that pass
@@ -62,10 +63,6 @@ first_is doc p y n l =
 
 -- ---- the ids that are left
 
-same_any : (p q : List ℕ → Bool) (ws : List (List ℕ)) → ((w : List ℕ) → p w ≡ q w) → list_any p ws ≡ list_any q ws
-same_any p q [] h = refl
-same_any p q (w ∷ ws) h = ap (λ b. b || list_any p ws) (h w) ∙ ap (λ b. q w || b) (same_any p q ws h)
-
 -- an element that has the first of one of the ids
 pub first_ids : (doc : Document) (y : ℕ) (ws : List (List ℕ)) → y < length doc
     → list_any (λ w. has_id doc w y && not (list_any (has_id doc w) (range_with_len 0 y))) ws ≡ list_any (λ w. is_id doc w y) ws
@@ -106,13 +103,8 @@ or_and true true false = refl
 or_and true false false = refl
 or_and false b c = refl
 
-bool_same : (a b : Bool) → (a ≡ true → b ≡ true) → (b ≡ true → a ≡ true) → a ≡ b
-bool_same true b h k = sym (h refl)
-bool_same false true h k = k refl
-bool_same false false h k = refl
-
 flip : (s w : List ℕ) → bytes_eq s w ≡ bytes_eq w s
-flip s w = bool_same _ _
+flip s w = same_truth _ _
     (λ h. (bytes_eq-Decides w s).1 (sym ((bytes_eq-Decides s w).0 h)))
     (λ h. (bytes_eq-Decides s w).1 (sym ((bytes_eq-Decides w s).0 h)))
 

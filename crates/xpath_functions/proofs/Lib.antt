@@ -10,4 +10,5 @@ mod Pushes
 mod Spaces
 mod TextSets
 mod Translations
+mod Truths
 mod Words

@@ -12,6 +12,7 @@ use Rattle.xpath_values.specs.Numbers.{to_number}
 use Rattle.xpath_values.specs.Compares.{num_fits}
 use Rattle.xpath_values.specs.declared.value.Value.TheVariants.{Nodes}
 use Rattle.xpath_parser.specs.Conversions.{fits}
+use Rattle.xpath_functions.proofs.Truths.{same_any}
 use Rattle.xpath_functions.specs.Extremes.{extreme, extreme_of, is_order, goes_up}
 
 absorb_left : (p q : Bool) → (q ≡ true → p ≡ true) → p ≡ (p || q)
@@ -170,10 +171,6 @@ module _ (doc : Document) where
       right c h g (extreme (not (goes_up c)) n (number_at y)) ys
       ∙ ap (λ b. b || list_any (λ y. num_fits c g (number_at y)) ys) (step_right c h g n (number_at y))
       ∙ or_assoc (num_fits c g n) (num_fits c g (number_at y)) (list_any (λ y. num_fits c g (number_at y)) ys)
-
-  same_any : (p q : ℕ → Bool) (xs : List ℕ) → ((x : ℕ) → p x ≡ q x) → list_any p xs ≡ list_any q xs
-  same_any p q [] h = refl
-  same_any p q (x ∷ xs) h = ap (λ b. b || list_any p xs) (h x) ∙ ap (λ b. q x || b) (same_any p q xs h)
 
   -- an order between a row of each side, by the least and the greatest number
   pub ordered : (c : Compare) → is_order c ≡ true → (xs ys : List ℕ) → num_fits c (extreme_of doc (goes_up c) xs) (extreme_of doc (not (goes_up c)) ys) ≡ list_any (λ x. list_any (λ y. num_fits c (number_at x) (number_at y)) ys) xs

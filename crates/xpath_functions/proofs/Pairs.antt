@@ -2,6 +2,7 @@
 use Rattle.std.proofs.Common.{◌≡◌, refl, sym, ◌∙◌, ap, ℕ, ◌<◌, Bool, true, false, ◌||◌, not, List, [], ◌∷◌, length, get_or, drop, map, suc, drop-cons, arith}
 use Rattle.std.specs.List.{list_any}
 use Rattle.std.specs.Str.{bytes_eq}
+use Rattle.xpath_functions.proofs.Truths.{same_any}
 use Rattle.std.proofs.lemmas.Slice.Eq.{bytes_eq-Decides}
 
 abbrev differ : List ℕ → List ℕ → Bool
@@ -71,10 +72,6 @@ any_map : {A : Type 0} (p : List ℕ → Bool) (f : A → List ℕ) (xs : List A
 any_map p f [] = refl
 any_map p f (x ∷ xs) = ap (λ b. p (f x) || b) (any_map p f xs)
 
-any_same : (p q : ℕ → Bool) (xs : List ℕ) → ((x : ℕ) → p x ≡ q x) → list_any p xs ≡ list_any q xs
-any_same p q [] h = refl
-any_same p q (x ∷ xs) h = ap (λ b. b || list_any p xs) (h x) ∙ ap (λ b. q x || b) (any_same p q xs h)
-
 or_swap : (a b c d : Bool) → ((a || b) || (c || d)) ≡ ((a || c) || (b || d))
 or_swap true b c d = refl
 or_swap false true true d = refl
@@ -94,7 +91,7 @@ pub shared : {A : Type 0} (has : List ℕ → Bool) (f : A → List ℕ) (texts 
     → ((q : List ℕ) → has q ≡ list_any (λ w. bytes_eq (f w) q) texts) → map f texts ≡ map t xs
     → list_any (λ y. has (t y)) ys ≡ list_any (λ x. list_any (λ y. bytes_eq (t x) (t y)) ys) xs
 shared has f texts t xs ys h e =
-    any_same (λ y. has (t y)) (λ y. list_any (λ x. bytes_eq (t x) (t y)) xs) ys
+    same_any (λ y. has (t y)) (λ y. list_any (λ x. bytes_eq (t x) (t y)) xs) ys
     (λ y. h (t y) ∙ any_map (λ w. bytes_eq w (t y)) f texts ∙ ap (list_any (λ w. bytes_eq w (t y))) e ∙ sym (any_map (λ w. bytes_eq w (t y)) t xs))
     ∙ any_swap (λ x y. bytes_eq (t x) (t y)) xs ys
 

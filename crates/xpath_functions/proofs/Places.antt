@@ -8,6 +8,7 @@ use Rattle.std.proofs.lemmas.Bool.{eqb-true, eq-eqb}
 use Rattle.std.proofs.lemmas.List.{length-append, length-drop, take-append-drop, drop-append-le, take-append-le}
 use Rattle.std.proofs.lemmas.Slice.Eq.{starts_is}
 use Rattle.std.proofs.lemmas.Str.{chars-append, encodes-append, encodes-chars, cons_from_encodes, length-le-encodes, IsUtf8-append, IsUtf8-drop, IsUtf8-take, IsCharBoundary-at_seam}
+use Rattle.xpath_functions.proofs.Truths.{same_truth}
 use Rattle.xpath_values.specs.Strings.{begins, is_empty, one_more, place_of, before_place, after_place, str_before, str_after}
 
 -- ---- beginning with a text
@@ -22,11 +23,6 @@ split_chars (c ∷ v) x rest e =
     let first = cons_from_encodes x (encode_utf8_all v ++ rest) c (e ∙ append_assoc (encode_utf8 c) (encode_utf8_all v) rest) in
     let more = split_chars v first.0 rest first.2 in
     (more.0, (first.1 ∙ ap (λ r. c ∷ r) more.1.0, more.1.1))
-
-same_truth : (p q : Bool) → (p ≡ true → q ≡ true) → (q ≡ true → p ≡ true) → p ≡ q
-same_truth true q f g = sym (f refl)
-same_truth false true f g = g refl
-same_truth false false f g = refl
 
 encodes_begins : (x v : List ℕ) → begins (encode_utf8_all x) (encode_utf8_all v) ≡ begins x v
 encodes_begins x v = same_truth _ _ by_bytes by_chars

@@ -8,13 +8,9 @@ use Rattle.std.specs.Str.{chars, bytes_eq, IsUtf8}
 use Rattle.std.proofs.lemmas.Map.Text.{is_eq-slice_cmp}
 use Rattle.std.proofs.lemmas.Slice.Eq.{bytes_eq-Decides}
 use Rattle.std.proofs.lemmas.Str.{encodes-chars, encodes_same}
+use Rattle.xpath_functions.proofs.Truths.{same_truth}
 use Rattle.xpath_functions.specs.Sets.{has_text}
 use denote.Ref.{Bor}
-
-same_truth : (p q : Bool) → (p ≡ true → q ≡ true) → (q ≡ true → p ≡ true) → p ≡ q
-same_truth true q f g = sym (f refl)
-same_truth false true f g = g refl
-same_truth false false f g = refl
 
 -- a text's bytes and the bytes of characters
 pub bytes_chars : (t q : List ℕ) → IsUtf8 t → bytes_eq t (encode_utf8_all q) ≡ bytes_eq (chars t) q
