@@ -5,6 +5,7 @@ pub mod FieldLemmas
 pub mod KeptLemmas
 pub mod ListLemmas
 pub mod QueryLemmas
+pub mod Reasons
 pub mod SplitLemmas
 pub mod StepLemmas
 pub mod StringLemmas

@@ -1,7 +1,9 @@
 -- What a script reads as.
-use Rattle.std.specs.Prelude.{◌≡◌, ◌⊎◌, ℕ, ◌<◌, ◌≤◌, true, false, List, [], ◌∷◌, length}
+use Rattle.std.specs.Prelude.{◌≡◌, ◌≢◌, ◌⊎◌, ℕ, ◌<◌, ◌≤◌, true, false, List, [], ◌∷◌, length}
 use Rattle.text_base.specs.declared.reasons.ScriptFault.{ScriptFault}
 use Rattle.text_base.specs.declared.reasons.ScriptFault.TheVariants as script
+use Rattle.text_base.specs.declared.reasons.SelectorFault.TheVariants as selector
+use Rattle.text_base.specs.declared.reasons.XPathFault.TheVariants as xpath
 use Rattle.css_meaning.specs.declared.selector.Dialect.{Dialect}
 use Rattle.query_script.specs.declared.script.Chain.{Chain}
 use Rattle.query_script.specs.declared.script.Chain.TheVariants as chain
@@ -53,6 +55,17 @@ pub record IsNamedField (d : Dialect) (piece : List ℕ) (field : Field) : Type 
 pub record IsField (d : Dialect) (piece : List ℕ) (field : Field) : Type 0 where
   pub name : field.name ≡ name_of piece
   pub reads : IsUnnamedField piece field ⊎ IsNamedField d piece field
+
+-- The reasons that a field has before it is run. The others are of running it, and want of memory is no reason of a text.
+abbrev pub IsFieldReason : Reason → Type 0
+IsFieldReason reason.Name = Unit {0}
+IsFieldReason reason.Chain = Unit {0}
+IsFieldReason reason.Order = Unit {0}
+IsFieldReason reason.Selection = ⊥
+IsFieldReason reason.Output = ⊥
+IsFieldReason reason.Pattern = ⊥
+IsFieldReason (reason.Css f) = f ≢ selector.Memory
+IsFieldReason (reason.XPath f) = f ≢ xpath.Memory
 
 -- ---- the script
 

@@ -1,7 +1,7 @@
 //! Texts cut at bytes outside quotes, and texts without blanks at their ends.
-ghost use Rattle.std.specs.Prelude.{◌==◌, ◌&&◌, ◌≡◌, map, length, IfOk};
+ghost use Rattle.std.specs.Prelude.{◌==◌, ◌&&◌, ◌≡◌, map, filter, IfOk};
 ghost use Rattle.std.specs.List.{list_all};
-ghost use Rattle.query_script.specs.Cuts.{quote_after, pieces, is_blank, skip_front, skip_back, trimmed, kept, fields_of};
+ghost use Rattle.query_script.specs.Cuts.{quote_after, pieces, is_blank, skip_front, skip_back, trimmed, is_written, fields_of};
 ghost use Rattle.query_script.specs.Reader.{cuts_of};
 
 use std::alloc::Global;
@@ -120,8 +120,8 @@ fn all_blank(text: &str) -> bool
 }
 
 /// The pieces that are not blanks alone.
-fn kept<'t>(alloc: Global, all: &[&'t str]) -> Result<Vec<&'t str>, NoMemory>
-    ensures { IfOk result (λ v. map (λ p. p.now) v.items ≡ kept (map (λ p. p.now) all.now)) }
+fn written<'t>(alloc: Global, all: &[&'t str]) -> Result<Vec<&'t str>, NoMemory>
+    ensures { IfOk result (λ v. map (λ p. p.now) v.items ≡ filter is_written (map (λ p. p.now) all.now)) }
 {
     let mut some = Vec::new(alloc);
     for piece in all {
@@ -138,5 +138,5 @@ pub(crate) fn field_pieces(alloc: Global, text: &str) -> Result<Vec<&str>, NoMem
     ensures { IfOk result (λ v. map (λ p. p.now) v.items ≡ fields_of text.now) }
 {
     let all = pieces(alloc, text, Cut::Fields)?;
-    kept(alloc, all.as_slice())
+    written(alloc, all.as_slice())
 }

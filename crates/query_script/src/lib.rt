@@ -13,6 +13,6 @@ mod steps;
 #[cfg(test)]
 mod tests;
 
-pub use laws::read_or_refused;
+pub use laws::{read_or_refused, reasons_of_fields};
 pub use parsing::parse_script;
 pub use script::{Chain, ChainStep, Field, FieldValue, Reason, Script, Take};

@@ -1,6 +1,6 @@
 use Rattle.std.proofs.Common.{sym, ◌∙◌}
 use Rattle.query_script.proofs.KeptLemmas.{kept_skips, kept_takes}
-use Rattle.query_script.proofs.cuts.kept.Goals as goal
+use Rattle.query_script.proofs.cuts.written.Goals as goal
 
 pub loop-piece-preserved-then-all_blank : goal.loop-piece-preserved-then-all_blank
 loop-piece-preserved-then-all_blank c =
