@@ -1,5 +1,5 @@
 -- A page builds one document, or has one fault.
-use Rattle.std.proofs.Common.{◌≡◌, ℕ, Bool, ◌+◌, ◌<◌, ◌≤◌, ◌⊎◌, inl, inr, List, [], ◌∷◌, ◌++◌, length, sym, refl, ◌∙◌, ap, subst, arith, Option, Some, None}
+use Rattle.std.proofs.Common.{◌≡◌, ℕ, Bool, ◌≤◌, inl, inr, List, [], ◌∷◌, ◌++◌, length, sym, refl, ap, subst, arith, Option, Some, None}
 use Rattle.text_base.specs.declared.reasons.PageReason.{PageReason}
 use Rattle.text_base.specs.declared.reasons.PageReason.TheVariants.{TooLong, NotUtf8, Nul, BadTag, BadAttribute, BadComment, BadMarkup, StrayEnd, Unclosed, TextOutside, SecondRoot, NoRoot, Deep, Memory}
 use Rattle.doc_model.specs.Document.{Document}

@@ -1,10 +1,9 @@
 -- Attributes that are kept one by one.
 use Rattle.std.proofs.Common.{◌≡◌, ℕ, zero, suc, ◌+◌, ◌-◌, ◌<◌, ◌≤◌, List, [], ◌∷◌, ◌++◌, Bool, true, false, cond, ◌||◌, length, map, take, drop, get_or, sym, refl, ◌∙◌, ap, subst, arith, length-take, length-drop, append-nil, append_assoc, take-append-drop, length-append}
 use Rattle.std.specs.Prelude.{◌≢◌, slice_range, Result, Ok, Err, OnOk}
-use Rattle.std.specs.List.{list_any}
 use Rattle.std.specs.Str.{IsUtf8, bytes_eq, str_to_ascii_lowercase}
 use Rattle.std.proofs.lemmas.Slice.Eq.{bytes_eq-Decides}
-use Rattle.std.proofs.lemmas.List.{map-append, take_more, length-map}
+use Rattle.std.proofs.lemmas.List.{map-append, take_more}
 use Rattle.std.proofs.lemmas.List.Folds.{list_any-append}
 use Rattle.char_refs.specs.References.{decoded}
 use Rattle.html_lexer.specs.declared.tags.Attribute.{Attribute}

@@ -1,8 +1,7 @@
 -- What is known of a page while its tokens are read one by one.
-use Rattle.std.proofs.Common.{◌≡◌, ℕ, ◌+◌, ◌-◌, ◌*◌, ◌<◌, ◌≤◌, ◌^◌, ◌⊎◌, inl, inr, List, [], ◌∷◌, ◌++◌, length, sym, refl, ◌∙◌, ap, subst, arith, rules, Option, Some, None, Ok, Err}
-use Rattle.std.specs.Prelude.{Result, ◌≢◌, IfErr}
+use Rattle.std.proofs.Common.{◌≡◌, ℕ, ◌+◌, ◌*◌, ◌<◌, ◌≤◌, ◌^◌, ◌⊎◌, inl, inr, List, [], ◌∷◌, ◌++◌, length, sym, refl, ◌∙◌, ap, subst, arith, rules, Some, None, Ok, Err}
+use Rattle.std.specs.Prelude.{Result, IfErr}
 use Rattle.std.specs.Str.{IsUtf8}
-use Rattle.text_base.specs.declared.reasons.PageReason.{PageReason}
 use Rattle.text_base.specs.declared.reasons.PageFault.{PageFault}
 use Rattle.doc_model.specs.Document.{Document}
 use Rattle.html_lexer.specs.declared.steps.Step.TheVariants.{Fails}
@@ -13,10 +12,8 @@ use Rattle.html_lexer.specs.Lexing.{Begins}
 use Rattle.html_lexer.proofs.LexLemmas.{last_push}
 use Rattle.html_lexer.proofs.StepLemmas.{attrs_of}
 use Rattle.html_reader.specs.declared.token.Token.{Token}
-use Rattle.html_reader.specs.Tokens.{Tok, starts}
-use Rattle.html_reader.specs.Contents.{kept}
+use Rattle.html_reader.specs.Tokens.{Tok}
 use Rattle.html_reader.specs.Machine.{State}
-use Rattle.html_reader.specs.Reading.{Builds, Refuses}
 use Rattle.html_reader.specs.States.{tok_of, from_of, most_rows}
 use Rattle.html_reader.specs.Taking.{LeadsTo, IsLed, size, IsMemory, Takes, AllBuild, EndRefused}
 use Rattle.html_reader.specs.Keeping.{IsReadable, begin_of}

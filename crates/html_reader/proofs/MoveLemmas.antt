@@ -1,6 +1,6 @@
 -- Where the tokens and attributes of a page end, and that each place has one.
-use Rattle.std.proofs.Common.{◌≡◌, ℕ, zero, suc, ◌+◌, ◌-◌, ◌<◌, ◌≤◌, ◌⊎◌, inl, inr, Bool, true, false, cond, ◌&&◌, ◌||◌, List, [], ◌∷◌, length, get_or, take, drop, sym, refl, ◌∙◌, ap, subst, arith, ltb, leb, length-take, length-drop}
-use Rattle.std.specs.Prelude.{◌==◌, slice_range, codes, ◌≢◌}
+use Rattle.std.proofs.Common.{◌≡◌, ℕ, zero, suc, ◌+◌, ◌-◌, ◌<◌, ◌≤◌, Bool, true, false, cond, ◌&&◌, ◌||◌, List, [], ◌∷◌, length, get_or, take, drop, sym, refl, ap, subst, arith, ltb, leb, length-take, length-drop}
+use Rattle.std.specs.Prelude.{◌==◌, slice_range, codes}
 use Rattle.std.specs.Bool.{MatchBool}
 use Rattle.std.proofs.lemmas.Bool.Decides.{nat_tests}
 use Rattle.std.proofs.lemmas.Slice.Eq.{bytes_eq-Decides}
@@ -18,11 +18,11 @@ use Rattle.html_lexer.specs.declared.steps.TokenAt.{TokenAt}
 use Rattle.html_lexer.specs.declared.steps.TokenAt.TheVariants.{Start, End, Text, Comment, Doctype}
 use Rattle.html_lexer.specs.declared.steps.Step.{Step}
 use Rattle.html_lexer.specs.declared.steps.Step.TheVariants.{Gives, Fails}
-use Rattle.html_lexer.specs.Steps.{is_opener, opens, end_tag_at, has_bang_end, comment_at, bracket, doctype_at, query_at, declaration_at, other_at, starts_at, start_of, StartAt, MarkupAt, raw_end, StepAt}
+use Rattle.html_lexer.specs.Steps.{opens, end_tag_at, has_bang_end, comment_at, bracket, doctype_at, query_at, declaration_at, other_at, starts_at, start_of, StartAt, MarkupAt, raw_end, StepAt}
 use Rattle.html_reader.specs.PageLaws.{IsPageReason}
 use Rattle.html_lexer.proofs.PlainLemmas.{other_moves, letter_is_name, letter_some}
 use Rattle.text_base.specs.declared.reasons.PageReason.{PageReason}
-use Rattle.text_base.specs.declared.reasons.PageReason.TheVariants.{BadTag, BadComment, BadMarkup, BadAttribute}
+use Rattle.text_base.specs.declared.reasons.PageReason.TheVariants.{BadTag}
 
 pick : {A : Type 0} (P : A → Type 0) (b : Bool) (x y : A) → (b ≡ true → P x) → (b ≡ false → P y) → P (cond b x y)
 pick P true x y h k = h refl

@@ -1,5 +1,5 @@
 -- A page builds a document or has a fault: which of the two, and what it is.
-use Rattle.std.proofs.Common.{◌≡◌, ℕ, zero, suc, ◌+◌, ◌-◌, ◌<◌, ◌≤◌, ◌⊎◌, inl, inr, Bool, true, false, List, [], ◌∷◌, ◌++◌, length, sym, refl, ◌∙◌, ap, subst, arith, Option, Some, None, Ok, Err}
+use Rattle.std.proofs.Common.{◌≡◌, ℕ, zero, suc, ◌-◌, ◌≤◌, inl, inr, Bool, true, false, List, [], ◌∷◌, ◌++◌, length, refl, subst, arith, Some, None, Ok, Err}
 use Rattle.std.specs.Prelude.{Result}
 use Rattle.std.proofs.lemmas.Bool.{cases_lt}
 use Rattle.text_base.specs.declared.reasons.PageReason.{PageReason}
@@ -16,7 +16,7 @@ use Rattle.html_reader.specs.Machine.{State, step, shuts, is_empty}
 use Rattle.html_reader.specs.Reached.{state_at}
 use Rattle.html_reader.specs.Reading.{Builds}
 use Rattle.html_reader.specs.Taking.{LeadsTo}
-use Rattle.html_reader.specs.Pages.{Means, Spells, BuildsPage, IsPageFault}
+use Rattle.html_reader.specs.Pages.{Means, Spells, BuildsPage}
 use Rattle.html_reader.specs.PageLaws.{PageAnswer}
 use Rattle.html_reader.proofs.MoveLemmas.{some_step}
 use Rattle.html_reader.proofs.ReadLemmas.{starts_led, takes_token, refuses_token, refuses_open, refuses_rootless, builds}

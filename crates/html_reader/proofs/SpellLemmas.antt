@@ -1,22 +1,21 @@
 -- The tokens of a page, as the tree takes them.
-use Rattle.std.proofs.Common.{◌≡◌, ℕ, zero, suc, ◌+◌, ◌-◌, ◌<◌, ◌≤◌, Bool, List, [], ◌∷◌, ◌++◌, length, map, take, drop, sym, refl, ◌∙◌, ap, subst, arith, length-take, length-drop}
-use Rattle.std.specs.Prelude.{◌≢◌, slice_range}
+use Rattle.std.proofs.Common.{◌≡◌, ℕ, ◌+◌, ◌-◌, ◌<◌, ◌≤◌, Bool, List, [], ◌∷◌, ◌++◌, length, map, drop, sym, refl, ◌∙◌, ap, subst, arith, length-take, length-drop}
+use Rattle.std.specs.Prelude.{slice_range}
 use Rattle.std.specs.Str.{str_to_ascii_lowercase}
 use Rattle.text_base.specs.declared.reasons.PageReason.{PageReason}
 use Rattle.html_lexer.specs.declared.steps.TokenAt.{TokenAt}
 use Rattle.html_lexer.specs.declared.steps.TokenAt.TheVariants.{Start, End, Text, Comment, Doctype}
-use Rattle.html_lexer.specs.declared.steps.Step.{Step}
 use Rattle.html_lexer.specs.declared.steps.Step.TheVariants.{Gives, Fails}
 use Rattle.html_lexer.specs.Steps.{StepAt}
-use Rattle.html_lexer.specs.Attributes.{Writes, pair_at}
+use Rattle.html_lexer.specs.Attributes.{pair_at}
 use Rattle.html_lexer.specs.Tokens.{Tok as Lexed, start_tok, end_tok, text_tok, comment_tok, doctype_tok, tok_at, end_of, name_after, last_name}
-use Rattle.html_lexer.specs.Lexing.{Begins, Spell, Lexes, LexFault}
+use Rattle.html_lexer.specs.Lexing.{Begins, Spell}
 use Rattle.html_lexer.proofs.LexLemmas.{same_step, same_token, spell_push}
 use Rattle.html_lexer.proofs.TagLemmas.{same_attributes}
 use Rattle.html_lexer.proofs.SliceLemmas.{page_attributes}
 use Rattle.html_reader.specs.Tokens.{Tok, starts, ends, holds, text, comment, doctype}
 use Rattle.html_reader.specs.Contents.{kept, content}
-use Rattle.html_reader.specs.Pages.{Means, AllMean, Spells, Comes}
+use Rattle.html_reader.specs.Pages.{Means, AllMean, Spells}
 use Rattle.html_reader.proofs.MoveLemmas.{PartsMove, step_moves}
 
 abbrev tag_of : List ℕ → Bool → List (List ℕ × List ℕ) → Tok

@@ -2,7 +2,7 @@
 use Rattle.std.proofs.Common.{◌≡◌, List, [], ◌∷◌, ◌++◌, sym, refl, ◌∙◌, ap, subst, Option, Some, None, append-nil}
 use Rattle.text_base.specs.declared.reasons.PageReason.{PageReason}
 use Rattle.doc_model.specs.Document.{Document}
-use Rattle.html_reader.specs.Tokens.{Tok, Mark, token}
+use Rattle.html_reader.specs.Tokens.{Tok, token}
 use Rattle.html_reader.specs.Places.{Place, place_marks, open_tags, is_rooted}
 use Rattle.html_reader.specs.Words.{tokens_of, IsFull}
 use Rattle.html_reader.specs.Reading.{Leads, Refuses, RefusesNext, Builds}

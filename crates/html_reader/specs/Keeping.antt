@@ -4,7 +4,6 @@ use Rattle.std.specs.List.{list_any}
 use Rattle.std.specs.Str.{IsUtf8, bytes_eq}
 use Rattle.html_lexer.specs.Tokens.{Tok as Lexed, start_tok, end_tok, text_tok, comment_tok, doctype_tok}
 use Rattle.html_lexer.specs.Attributes.{Writes, IsAttrs}
-use Rattle.html_lexer.specs.State.{AttrReading}
 use Rattle.html_reader.specs.declared.token.Attr as code
 use Rattle.html_reader.specs.Tokens.{Attr}
 use Rattle.html_reader.specs.Contents.{kept}

@@ -12,9 +12,7 @@ mod tables;
 mod token;
 
 pub use laws::{never_both, one_document, one_fault, one_full_word, one_page_reading};
-pub use owned::Owned;
 pub use page::read_html;
-pub use token::{Attr, StartTag, Token};
 
 #[cfg(test)]
 mod tests;

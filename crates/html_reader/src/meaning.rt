@@ -8,6 +8,7 @@ ghost use Rattle.html_reader.specs.Keeping.{IsReadable, begin_of};
 
 use crate::contents::{content, lower_name};
 use crate::keeping::keep_attrs;
+use crate::tables::{is_foreign, is_void, may_omit_end};
 use crate::token::{StartTag, Token};
 use html_lexer::Token as Lexed;
 use std::alloc::Global;
@@ -51,9 +52,19 @@ pub fn token_of<'p>(alloc: Global, token: Lexed<'p>, before: &str) -> Result<Tok
         } => {
             let name = lower_name(alloc, name)?;
             let attrs = keep_attrs(alloc, attrs)?;
+            let void = is_void(name.as_str());
+            let omits = may_omit_end(name.as_str());
+            let foreign = is_foreign(name.as_str());
             Ok(Token::Start {
                 from,
-                tag: StartTag { name, attrs, slash },
+                tag: StartTag {
+                    name,
+                    attrs,
+                    slash,
+                    void,
+                    omits,
+                    foreign,
+                },
             })
         }
         Lexed::End { from, to: _, name } => {

@@ -19,7 +19,7 @@ ghost use Rattle.html_reader.specs.Words.{is_shut, ends_at};
 ghost use Rattle.html_reader.specs.Tokens.{starts, comment};
 
 use crate::owned::Owned;
-use crate::tables::{is_foreign, is_void, may_omit_end, start_ends};
+use crate::tables::start_ends;
 use crate::token::{Attr, StartTag, Token};
 use doc_model::{Grow, Piece};
 use std::alloc::Global;
@@ -71,7 +71,7 @@ fn any_foreign(tags: &[StartTag<'_>]) -> bool
     ensures { result ≡ list_any is_foreign_tag tags.now }
 {
     for tag in tags {
-        if is_foreign(tag.name.as_str()) {
+        if tag.foreign {
             return true;
         }
     }
@@ -81,37 +81,38 @@ fn any_foreign(tags: &[StartTag<'_>]) -> bool
 fn is_single_last(tags: &[StartTag<'_>], tag: &StartTag<'_>) -> bool
     ensures { result ≡ is_single_last tags.now tag.now }
 {
-    is_void(tag.name.as_str()) || (tag.slash && any_foreign(tags))
+    tag.void || (tag.slash && any_foreign(tags))
 }
 
-fn token_ends(name: &str, next: &Token<'_>) -> bool
-    ensures { result ≡ ends_at name.now (Some (tok_of next.now)) }
+fn token_ends(tag: &StartTag<'_>, next: &Token<'_>) -> bool
+    ensures { result ≡ ends_at (owned_bytes tag.now.name) (Some (tok_of next.now)) }
 {
     match next {
-        Token::Start { from: _, tag } => {
-            may_omit_end(name) && start_ends(name, tag.name.as_str())
-        }
+        Token::Start {
+            from: _,
+            tag: other,
+        } => tag.omits && start_ends(tag.name.as_str(), other.name.as_str()),
         Token::End {
             from: _,
             name: other,
-        } => may_omit_end(name) && name != other.as_str(),
+        } => tag.omits && tag.name.as_str() != other.as_str(),
         _ => false,
     }
 }
 
-fn ends_at(name: &str, next: Option<&Token<'_>>) -> bool
-    ensures { result ≡ ends_at name.now (next_of next.entry) }
+fn ends_at(tag: &StartTag<'_>, next: Option<&Token<'_>>) -> bool
+    ensures { result ≡ ends_at (owned_bytes tag.now.name) (next_of next.entry) }
 {
     match next {
-        None => may_omit_end(name),
-        Some(next) => token_ends(name, next),
+        None => tag.omits,
+        Some(next) => token_ends(tag, next),
     }
 }
 
 fn tag_ends(tags: &[StartTag<'_>], tag: &StartTag<'_>, next: Option<&Token<'_>>) -> bool
     ensures { result ≡ (is_single_last tags.now tag.now || ends_at (owned_bytes tag.now.name) (next_of next.entry)) }
 {
-    is_single_last(tags, tag) || ends_at(tag.name.as_str(), next)
+    is_single_last(tags, tag) || ends_at(tag, next)
 }
 
 impl<'p, G: Grow<'p> + Drop> Reader<'p, G> {

@@ -1,5 +1,4 @@
 use Rattle.std.proofs.Common.{◌≡◌, ℕ, List, sym, ◌∙◌, ap, subst, map}
-use Rattle.std.specs.Prelude.{Option}
 use Rattle.char_refs.specs.References.{decoded}
 use Rattle.html_lexer.specs.State.{AttrReading}
 use Rattle.html_lexer.specs.Attributes.{IsLast, pair_at}

@@ -1,4 +1,4 @@
-use Rattle.std.proofs.Common.{◌≡◌, rules, subst, sym}
+use Rattle.std.proofs.Common.{subst}
 use Rattle.std.specs.Str.{IsUtf8}
 use Rattle.html_reader.specs.Pieces.{owned_bytes}
 use Rattle.html_reader.proofs.KeepLemmas.{texts_pushed}
