@@ -17,8 +17,8 @@ pub item_more : (old new front : List ℕ) (i : ℕ) → old ≡ front ++ flat_m
 item_more old new front i h k =
     let next : i + 1 ≡ 1 + i = omega arith in
     rw (add-one, more bulk_item 1 i) (
-      k ∙ ap (λ t. t ++ bulk_item (i + 1)) h ∙ append_assoc front (flat_map bulk_item (range_with_len 1 i)) (bulk_item (i + 1))
-      ∙ ap (λ j. front ++ (flat_map bulk_item (range_with_len 1 i) ++ bulk_item j)) next
+    k ∙ ap (λ t. t ++ bulk_item (i + 1)) h ∙ append_assoc front (flat_map bulk_item (range_with_len 1 i)) (bulk_item (i + 1))
+    ∙ ap (λ j. front ++ (flat_map bulk_item (range_with_len 1 i) ++ bulk_item j)) next
     )
 
 -- five pieces, the last pushed last

@@ -27,6 +27,7 @@ nothing_written plan told b f old s = record {
     front : (told : Option (List (List ℕ × List ℕ))) (bytes : List (List ℕ × List ℕ) → List ℕ) → IfSome told (λ pages. TakesPart old (bytes pages) old)
     front None bytes = tt
     front (Some pages) bytes = part_of_nothing old (bytes pages)
+
     neither : (Memory ≡ Done) ⊎ (Memory ≡ Refused) → Grows b (length (names_of plan)) b
     neither (inl e) = absurd (cc)
     neither (inr e) = absurd (cc)

@@ -75,6 +75,7 @@ bulk_said w n command h = by_tests (bytes_eq w (codes "bulk")) refl (count_of n)
     counted k p q (bulk m) e =
         let same : k ≡ m = (let x = e in cc) in
         (n, ap (λ v. v ∷ n ∷ []) ((bytes_eq-Decides w (codes "bulk")).0 p), count_said n m (q ∙ ap Some same))
+
     by_tests : (a : Bool) → bytes_eq w (codes "bulk") ≡ a → (o : Option ℕ) → count_of n ≡ o
         → (if a then option_map bulk o else None) ≡ Some command → IsWords command (w ∷ n ∷ [])
     by_tests true p (Some k) q e = counted k p q command (let x = e in cc)
@@ -92,6 +93,7 @@ css_said w d s command h = by_tests (bytes_eq w (codes "css")) refl (dialect_of 
         ∙ ap (λ v. codes "css" ∷ dialect_word y ∷ v ∷ []) two
     spelled x p q (run y t names) e = let z = e in absurd (cc)
     spelled x p q (bulk n) e = let z = e in absurd (cc)
+
     by_tests : (a : Bool) → bytes_eq w (codes "css") ≡ a → (o : Option Dialect) → dialect_of d ≡ o
         → (if a then option_map (λ x. css x s) o else None) ≡ Some command → IsWords command (w ∷ d ∷ s ∷ [])
     by_tests true p (Some x) q e = spelled x p q command (let y = e in cc)
@@ -106,13 +108,13 @@ run_said w d s n ns command h = by_tests (bytes_eq w (codes "run")) refl (dialec
     spelled x p q (run y t names) e =
         let one : x ≡ y = (let z = e in cc) in
         let two : s ≡ t = (let z = e in cc) in
-        let three : n ∷ ns ≡ names = (let z = e in cc) in
-        (
+        let three : n ∷ ns ≡ names = (let z = e in cc) in (
           ap (λ v. v ∷ d ∷ s ∷ n ∷ ns) ((bytes_eq-Decides w (codes "run")).0 p) ∙ ap (λ v. codes "run" ∷ v ∷ s ∷ n ∷ ns) (dialect_read d x q ∙ ap dialect_word one)
-          ∙ ap (λ v. codes "run" ∷ dialect_word y ∷ v ∷ n ∷ ns) two ∙ ap (λ v. codes "run" ∷ dialect_word y ∷ t ∷ v) three,
-          λ none. let z = none in cc
+              ∙ ap (λ v. codes "run" ∷ dialect_word y ∷ v ∷ n ∷ ns) two ∙ ap (λ v. codes "run" ∷ dialect_word y ∷ t ∷ v) three,
+          λ none. let z = none in cc,
         )
     spelled x p q (bulk k) e = let z = e in absurd (cc)
+
     by_tests : (a : Bool) → bytes_eq w (codes "run") ≡ a → (o : Option Dialect) → dialect_of d ≡ o
         → (if a then option_map (λ x. run x s (n ∷ ns)) o else None) ≡ Some command → IsWords command (w ∷ d ∷ s ∷ n ∷ ns)
     by_tests true p (Some x) q e = spelled x p q command (let y = e in cc)

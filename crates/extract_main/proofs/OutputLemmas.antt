@@ -16,19 +16,25 @@ part_of_nothing old bytes = (bytes, takes_nothing old bytes)
 
 -- a part of what stands at the front is a part of the whole
 pub part_of_front : (old new : Option (List ℕ)) (bytes more : List ℕ) → TakesPart old bytes new → TakesPart old (bytes ++ more) new
-part_of_front old new bytes more t = (t.0 ++ more, record {
-  front = t.1.front;
-  whole = ap (λ x. x ++ more) t.1.whole ∙ append_assoc t.1.front t.0 more;
-  taken = t.1.taken;
-})
+part_of_front old new bytes more t = (
+  t.0 ++ more,
+  record {
+    front = t.1.front;
+    whole = ap (λ x. x ++ more) t.1.whole ∙ append_assoc t.1.front t.0 more;
+    taken = t.1.taken;
+  },
+)
 
 -- a part behind a front that was taken whole
 pub part_behind : (old mid new : Option (List ℕ)) (front bytes : List ℕ) → mid ≡ grown old front → TakesPart mid bytes new → TakesPart old (front ++ bytes) new
-part_behind old mid new front bytes e t = (t.0, record {
-  front = front ++ t.1.front;
-  whole = ap (λ x. front ++ x) t.1.whole ∙ sym (append_assoc front t.1.front t.0);
-  taken = t.1.taken ∙ (ap (λ m. grown m t.1.front) e ∙ grown-grown old front t.1.front);
-})
+part_behind old mid new front bytes e t = (
+  t.0,
+  record {
+    front = front ++ t.1.front;
+    whole = ap (λ x. front ++ x) t.1.whole ∙ sym (append_assoc front t.1.front t.0);
+    taken = t.1.taken ∙ (ap (λ m. grown m t.1.front) e ∙ grown-grown old front t.1.front);
+  },
+)
 
 -- the whole is a part of itself
 pub part_whole : (old new : Option (List ℕ)) (bytes : List ℕ) → new ≡ grown old bytes → TakesPart old bytes new

@@ -23,7 +23,7 @@ newlines_short bytes =
     let all : length (range_with_len 0 (length bytes)) ≡ length bytes = length-range_with_len 0 (length bytes) in
     let some : length (filter (is_kept bytes) (range_with_len 0 (length bytes))) ≤ length (range_with_len 0 (length bytes)) = fewer (is_kept bytes) (range_with_len 0 (length bytes)) in
     let same : length (newlines bytes) ≡ length (filter (is_kept bytes) (range_with_len 0 (length bytes))) =
-        length-map (filter (is_kept bytes) (range_with_len 0 (length bytes))) (λ i. newline_for (slice_index bytes i)) in
+    length-map (filter (is_kept bytes) (range_with_len 0 (length bytes))) (λ i. newline_for (slice_index bytes i)) in
     omega arith
 
 mark_short : (bytes : List ℕ) → length (without_mark bytes) ≤ length bytes

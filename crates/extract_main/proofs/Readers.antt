@@ -6,6 +6,7 @@ use Rattle.css_meaning.specs.declared.selector.Dialect.{Dialect}
 use Rattle.doc_model.specs.Document.{Document}
 use Rattle.html_reader.specs.Pages.{BuildsPage, IsPageFault}
 use Rattle.html_reader.proofs.FaultLemmas.{one_page_document, one_page_fault, never_both_of_page}
+use Rattle.query_script.proofs.Unique.{one_script_fault as one_reason, read_or_refused as not_both}
 use Rattle.query_script.specs.declared.script.Field.{Field}
 use Rattle.query_script.specs.Fields.{IsScript, IsScriptFault}
 
@@ -13,10 +14,10 @@ pub one_script : (d : Dialect) (text : List ℕ) (fields other : List Field) →
 one_script = ?
 
 pub one_script_fault : (text : List ℕ) (fault other : ScriptFault) → IsScriptFault text fault → IsScriptFault text other → fault ≡ other
-one_script_fault = ?
+one_script_fault = one_reason
 
 pub read_or_refused : (d : Dialect) (text : List ℕ) (fields : List Field) (fault : ScriptFault) → IsScript d text fields → IsScriptFault text fault → ⊥
-read_or_refused = ?
+read_or_refused = not_both
 
 pub one_document : (page : List ℕ) (doc other : Document) → BuildsPage page doc → BuildsPage page other → doc ≡ other
 one_document = one_page_document

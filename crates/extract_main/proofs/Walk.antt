@@ -116,6 +116,7 @@ ended_at line told names i old mid new refused name b bi b' f fi f' s si s' stat
     neither : (status ≡ Done) ⊎ (status ≡ Refused) → Grows b (length names) b'
     neither (inl e) = absurd (nd e)
     neither (inr e) = absurd (nr e)
+
     cause_of : Rose fi f' ⊎ Lacks told name → Rose f f' ⊎ Lacks told (slice_index_or names i [])
     cause_of (inl r) = inl (rose_from f fi f' lf r)
     cause_of (inr l) = inr (rw n l)

@@ -12,7 +12,8 @@ use std::alloc::Global;
 use text_base::{NoMemory, ScriptFault};
 
 /// What is asked of the bulk page: five fields.
-const BULK_SCRIPT: &str = "items: xpath('count(//li)').get()\nk3: xpath('count(//li[@class = \"k3\"])').get()\nlast: css('ul > li:last-child a::text').get()\nodd: xpath('count(//li[count(preceding-sibling::li) mod 2 = 0])').get()\nfirst: css('#n1 a::attr(href)').get()";
+const BULK_SCRIPT: &str =
+    "items: xpath('count(//li)').get()\nk3: xpath('count(//li[@class = \"k3\"])').get()\nlast: css('ul > li:last-child a::text').get()\nodd: xpath('count(//li[count(preceding-sibling::li) mod 2 = 0])').get()\nfirst: css('#n1 a::attr(href)').get()";
 
 fn push(page: &mut String, text: &str) -> Result<(), NoMemory>
     ensures { OnOk result (string_bytes page.new ≡ string_bytes page.old ++ text.now) }
@@ -70,7 +71,10 @@ pub fn bulk_page(alloc: Global, n: u32) -> Result<String, NoMemory>
     ensures { IfOk result (λ s. string_bytes s ≡ bulk_text n) }
 {
     let mut page = String::new(alloc);
-    push(&mut page, "<!DOCTYPE html><html><head><title>bulk</title></head><body><ul>")?;
+    push(
+        &mut page,
+        "<!DOCTYPE html><html><head><title>bulk</title></head><body><ul>",
+    )?;
     for i in 0..n {
         push_item(alloc, &mut page, i + 1)?;
     }

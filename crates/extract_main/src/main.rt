@@ -66,3 +66,9 @@ fn main(rt: HostRuntime) -> ExitCode {
     ExitCode::from(status.number())
 }
 
+#[cfg(test)]
+mod run_tests;
+#[cfg(test)]
+mod tested;
+#[cfg(test)]
+mod tests;

@@ -47,7 +47,11 @@ pub fn long_answer(alloc: Global, name: &str) -> Result<Line, NoMemory>
 }
 
 /// The fields' values on a document, in order.
-fn values_of<S: Axes>(alloc: Global, source: &S, fields: &[Field]) -> Result<Seq<FieldValue>, NoMemory>
+fn values_of<S: Axes>(
+    alloc: Global,
+    source: &S,
+    fields: &[Field],
+) -> Result<Seq<FieldValue>, NoMemory>
     requires { AllByRecursion IsOrdered fields.now }
     ensures { IfOk result (λ values. AreValues (S.document source.now) fields.now values) }
 {
@@ -76,7 +80,12 @@ fn holds_refusal(values: &[FieldValue]) -> bool
 }
 
 /// The line of a document.
-fn document_answer<S: Axes>(alloc: Global, fields: &Seq<Field>, name: &str, source: &S) -> Result<Line, NoMemory>
+fn document_answer<S: Axes>(
+    alloc: Global,
+    fields: &Seq<Field>,
+    name: &str,
+    source: &S,
+) -> Result<Line, NoMemory>
     requires { AllByRecursion IsOrdered fields.now }
     ensures { IfOk result (λ line. IsDocumentLine fields.now name.now (S.document source.now) (answer_of line)) }
 {
@@ -99,7 +108,12 @@ fn text_answer(alloc: Global, fields: &Seq<Field>, name: &str, text: &str) -> Re
 }
 
 /// The line of a page: the fields with their values in the tree that the bytes spell, or why the page is refused, and where.
-pub fn page_answer(alloc: Global, fields: &Seq<Field>, name: &str, bytes: &[u8]) -> Result<Line, NoMemory>
+pub fn page_answer(
+    alloc: Global,
+    fields: &Seq<Field>,
+    name: &str,
+    bytes: &[u8],
+) -> Result<Line, NoMemory>
     requires { AllByRecursion IsOrdered fields.now }
     ensures { IfOk result (λ line. IsPageLine fields.now name.now bytes.now (answer_of line)) }
 {

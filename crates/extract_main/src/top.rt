@@ -71,7 +71,12 @@ fn write_run<P: Pages, W: Sink>(
 }
 
 /// Writes what the words ask for.
-fn write_form<P: Pages, W: Sink>(alloc: Global, form: Form<'_>, pages: &mut P, sink: &mut W) -> Status
+fn write_form<P: Pages, W: Sink>(
+    alloc: Global,
+    form: Form<'_>,
+    pages: &mut P,
+    sink: &mut W,
+) -> Status
     requires { (n : ℕ) → command_of form ≡ Some (bulk n) → (1 ≤ n) × (n ≤ 20000) }
     ensures usage { result ≡ Status.Usage ↔ command_of form.entry ≡ None }
     ensures nothing { command_of form.entry ≡ None → (pages.new ≡ pages.old) × (sink.new ≡ sink.old) }

@@ -96,7 +96,12 @@ fn fields_value(alloc: Global, fields: &[Field], values: &[FieldValue]) -> Resul
 }
 
 /// The object of a page.
-fn page_value(alloc: Global, name: &str, fields: &[Field], values: &[FieldValue]) -> Result<Value, AllocError>
+fn page_value(
+    alloc: Global,
+    name: &str,
+    fields: &[Field],
+    values: &[FieldValue],
+) -> Result<Value, AllocError>
     requires { length fields.now ≡ length values.now }
     ensures { IfOk result (λ v. view v ≡ page_data name.now fields.now values.now) }
 {
@@ -107,7 +112,12 @@ fn page_value(alloc: Global, name: &str, fields: &[Field], values: &[FieldValue]
 /// The line of a page, without the line feed: an object with the members `fields`, an object for each field, and `page`, the
 /// page's name. A field has the members `name` and `value`, which is a string, null or an array of strings, or it has `name`
 /// and `refused`, the reason.
-pub fn page_line(alloc: Global, name: &str, fields: &Seq<Field>, values: &Seq<FieldValue>) -> Result<String, NoMemory>
+pub fn page_line(
+    alloc: Global,
+    name: &str,
+    fields: &Seq<Field>,
+    values: &Seq<FieldValue>,
+) -> Result<String, NoMemory>
     requires { length fields.now ≡ length values.now }
     ensures text { IfOk result (λ s. string_bytes s ≡ page_text name.now fields.now values.now) }
     ensures value { IfOk result (λ s. string_bytes s ≡ compact_text (page_data name.now fields.now values.now)) }
