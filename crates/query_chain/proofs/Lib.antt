@@ -1,5 +1,14 @@
 pub mod Adding
 pub mod Building
+pub mod Errors
+pub mod ItemTexts
+pub mod Lists
 pub mod Matching
+pub mod Readying
+pub mod Searching
+pub mod Selecting
+pub mod Shapes
 pub mod Starts
+pub mod Stepping
 pub mod Values
+pub mod Words

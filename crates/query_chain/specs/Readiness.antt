@@ -1,5 +1,5 @@
 -- Steps that are read and built.
-use Rattle.std.specs.Prelude.{◌≡◌, ℕ, ◌<◌, List, [], ◌∷◌, length, slice_index_or, encode_utf8_all}
+use Rattle.std.specs.Prelude.{◌≡◌, List, [], ◌∷◌, encode_utf8_all}
 use Rattle.std.specs.Str.{chars}
 use Rattle.xpath_parser.specs.Laws.{IsRead}
 use Rattle.xpath_parser.specs.Reading.{ReadsAs}
@@ -15,10 +15,6 @@ use Rattle.query_chain.specs.Built.{IsBuilt}
 abbrev pub IsReadable : ChainStep → Type 0
 IsReadable (step.Query query) = IsRead (encode_utf8_all query)
 IsReadable (step.Match pattern) = Unit {0}
-
--- each step does
-pub record AreReadable (steps : List ChainStep) : Type 0 where
-  pub each : (k : ℕ) (d : ChainStep) → k < length steps → IsReadable (slice_index_or steps k d)
 
 -- it is what the step's text reads as, or what its pattern is built to
 abbrev pub IsReady : ChainStep → Ready → Type 0

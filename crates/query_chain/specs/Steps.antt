@@ -1,5 +1,5 @@
 -- What the private functions hold while the steps of a field run.
-use Rattle.std.specs.Prelude.{◌≡◌, ℕ, ◌<◌, List, [], ◌∷◌, map, length, slice_index, slice_index_or}
+use Rattle.std.specs.Prelude.{◌≡◌, ℕ, ◌<◌, List, [], ◌∷◌, map, length, All}
 use Rattle.std.specs.Str.{chars}
 use Rattle.doc_model.specs.Document.{Document}
 use Rattle.xpath_parser.specs.Typed.{expression}
@@ -22,9 +22,9 @@ abbrev pub items_of : Items → List Item
 items_of (Rows rows) = map node rows.items
 items_of (Texts texts) = map text texts.items
 
--- Each number is that of a row. It is a record, so that no tactic opens it.
-pub record AreRowsOf (doc : Document) (xs : List ℕ) : Type 0 where
-  pub each : (k : ℕ) → k < length xs → slice_index xs k < length doc
+-- each number is that of a row
+abbrev pub AreRowsOf : Document → List ℕ → Type 0
+AreRowsOf doc xs = All (λ x. x < length doc) xs
 
 abbrev pub AreIn : Document → Items → Type 0
 AreIn doc (Rows rows) = AreRowsOf doc rows.items
@@ -38,10 +38,6 @@ action_of (ready.Match regex) = search (chars (regex_source regex))
 abbrev pub IsUsable : Ready → Type 0
 IsUsable (ready.Query typed) = Unit {0}
 IsUsable (ready.Match regex) = IsBuilt (chars (regex_source regex)) regex
-
--- each of the steps is
-pub record AreUsable (steps : List Ready) : Type 0 where
-  pub each : (k : ℕ) (d : Ready) → k < length steps → IsUsable (slice_index_or steps k d)
 
 -- why it was stopped, which is the first of the limits that are passed
 abbrev pub IsFirst : Stop → List Reason → Type 0

@@ -1,6 +1,6 @@
 //! The items of a chain, and their texts.
 ghost use Rattle.std.specs.Prelude.{◌≡◌, ◌≢◌, ◌<◌, ◌≤◌, length, map, take, encode_utf8_all, nat_le, IfOk, OnOk, IsErrOf};
-ghost use Rattle.doc_model.specs.Document.{row};
+ghost use Rattle.doc_model.specs.Document.{Document, row};
 ghost use Rattle.markup_out.specs.Markup as spec;
 ghost use Rattle.query_chain.specs.Chains.{row_text, item_texts};
 ghost use Rattle.query_chain.specs.Items.{node, bytes_of};
@@ -22,7 +22,8 @@ pub enum Items {
 impl Items {
     /// The first item alone, if there is one.
     pub fn first(self) -> Items
-        ensures { items_of result ≡ take 1 (items_of self) }
+        ensures items { items_of result ≡ take 1 (items_of self) }
+        ensures within { (doc : Document) → AreIn doc self → AreIn doc result }
     {
         match self {
             Items::Rows(mut rows) => {

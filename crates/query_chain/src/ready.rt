@@ -1,8 +1,8 @@
 //! The steps of a field, read and built.
-ghost use Rattle.std.specs.Prelude.{◌≡◌, true, IfOk, IsErrOf};
+ghost use Rattle.std.specs.Prelude.{◌≡◌, true, All, IfOk, IsErrOf};
 ghost use Rattle.std.specs.List.{list_any};
 ghost use Rattle.query_chain.specs.Chains.{is_refused};
-ghost use Rattle.query_chain.specs.Readiness.{IsReady, AreReady, IsReadable, AreReadable};
+ghost use Rattle.query_chain.specs.Readiness.{IsReady, AreReady, IsReadable};
 
 use crate::pattern::{BuildFault, build};
 use query_script::ChainStep;
@@ -34,7 +34,7 @@ fn prepare(alloc: Global, step: &ChainStep) -> Result<Ready, BuildFault>
 
 /// Reads and builds all steps, from left to right.
 pub fn prepare_all(alloc: Global, steps: &[ChainStep]) -> Result<Vec<Ready>, BuildFault>
-    requires { AreReadable steps.now }
+    requires { All IsReadable steps.now }
     ensures ready { IfOk result (λ v. AreReady steps.now v.items) }
     ensures refused { IsErrOf result BuildFault.Pattern → list_any is_refused steps.now ≡ true }
 {

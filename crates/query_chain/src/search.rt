@@ -4,7 +4,7 @@ ghost use Rattle.std.specs.Str.{chars};
 ghost use Rattle.std.specs.Option.{option_map_or};
 ghost use Rattle.regex.specs.Patterns.{Match, find_str};
 ghost use Rattle.regex.specs.Search.{next_match};
-ghost use Rattle.regex.specs.Strings.{matcher_pattern, regex_source, captures_span, captures_haystack, IsCapturesOf};
+ghost use Rattle.regex.specs.Strings.{matcher_pattern, regex_pattern, regex_source, captures_span, captures_haystack, IsCapturesOf};
 ghost use Rattle.query_chain.specs.Patterns.{match_texts, texts_of, found_texts};
 ghost use Rattle.query_chain.specs.Built.{IsBuilt};
 ghost use Rattle.query_chain.specs.Items.{bytes_of};
@@ -120,6 +120,27 @@ pub fn add_matches(
     Ok(())
 }
 
+/// Adds what the pattern finds in a text.
+fn add_found(
+    alloc: Global,
+    regex: &Regex,
+    matcher: &mut Matcher<'_>,
+    text: &str,
+    limits: Limits,
+    out: &mut Found,
+) -> Result<(), Stop>
+    requires built { IsBuilt (chars (regex_source regex.now)) regex.now }
+    requires same { matcher_pattern matcher.old ≡ regex_pattern regex.now }
+    ensures same { OnOk result (matcher_pattern matcher.new ≡ matcher_pattern matcher.old) }
+    ensures ok { OnOk result (Adds limits out.old out.new (found_texts (chars (regex_source regex.now)) (chars text.now))) }
+    ensures many { IsErrOf result Stop.Selection → limits.items < out.old.count + length (found_texts (chars (regex_source regex.now)) (chars text.now)) }
+    ensures output { result ≢ Err Stop.Output }
+{
+    let groups = regex.captures_len();
+    add_matches(alloc, matcher, text, groups, limits, out)?;
+    Ok(())
+}
+
 /// The texts that a pattern finds in texts, joined in order. It is Selection where they are too many, else Output where
 /// they have too many bytes together.
 pub fn search_texts(
@@ -136,15 +157,14 @@ pub fn search_texts(
     ensures over { IsErrOf result Stop.Output → (length (flat_map (found_texts (chars (regex_source regex.now))) texts.now) ≤ limits.items)
         × (limits.bytes < bytes_of (flat_map (found_texts (chars (regex_source regex.now))) texts.now)) }
 {
-    let groups = regex.captures_len();
     let mut matcher = regex.matcher(alloc)?;
     let mut found = Found::new(alloc);
     for text in texts {
-        add_matches(
+        add_found(
             alloc,
+            regex,
             &mut matcher,
             text.as_str(),
-            groups,
             limits,
             &mut found,
         )?;

@@ -1,13 +1,14 @@
 //! One step after the other.
-ghost use Rattle.std.specs.Prelude.{◌≡◌, ◌≤◌, ◌<◌, [], ◌∷◌, map, length, IfOk, IfErr};
+ghost use Rattle.std.specs.Prelude.{◌≡◌, ◌≤◌, ◌<◌, [], ◌∷◌, map, length, All, IfOk, IfErr};
 ghost use Rattle.std.specs.Str.{chars};
 ghost use Rattle.regex.specs.Strings.{regex_source};
+ghost use Rattle.xpath_parser.specs.Shapes.{shape_of, is_nodes};
 ghost use Rattle.xpath_parser.specs.Typed.{expression};
 ghost use Rattle.query_chain.specs.Built.{IsBuilt};
 ghost use Rattle.query_chain.specs.Chains as spec;
 ghost use Rattle.query_chain.specs.Chains.{item_texts, step_items, step_passes, last_items, steps_pass, end_passes, taken_texts, answer};
 ghost use Rattle.query_chain.specs.Items.{node};
-ghost use Rattle.query_chain.specs.Steps.{items_of, AreIn, action_of, IsUsable, AreUsable, IsFirst, IsStopOf};
+ghost use Rattle.query_chain.specs.Steps.{items_of, AreRowsOf, AreIn, action_of, IsUsable, IsFirst, IsStopOf};
 
 use crate::items::{Items, texts_of};
 use crate::limits::{Limits, Stop};
@@ -22,42 +23,58 @@ use text_base::{Seq, Txt};
 use xpath_parser::Typed;
 use xpath_values::Shape;
 
-/// What a query gives at the items: rows or texts, by its shape. There are no items that are texts.
+/// Whether a query gives nodes.
+fn gives_nodes(query: &Typed) -> bool
+    ensures { result ≡ is_nodes (shape_of (expression query.now)) }
+{
+    match query.shape() {
+        Shape::Nodes => true,
+        Shape::Str | Shape::Num | Shape::Bool => false,
+    }
+}
+
+/// What a query gives at rows: rows or texts, by its shape.
 fn select<S: Axes>(
     alloc: Global,
     source: &S,
     query: &Typed,
-    items: &Items,
+    rows: &[u32],
     limits: Limits,
 ) -> Result<Items, Stop>
-    requires within { AreIn (S.document source.now) items.now }
-    requires few { length (items_of items.now) ≤ limits.items }
-    ensures items { IfOk result (λ v. items_of v ≡ step_items (S.document source.now) (spec.select (expression query.now)) (items_of items.now)) }
-    ensures passes { IfOk result (λ v. step_passes limits (S.document source.now) (spec.select (expression query.now)) (items_of items.now) ≡ []) }
+    requires within { AreRowsOf (S.document source.now) rows.now }
+    requires few { length rows.now ≤ limits.items }
+    ensures items { IfOk result (λ v. items_of v ≡ step_items (S.document source.now) (spec.select (expression query.now)) (map node rows.now)) }
+    ensures passes { IfOk result (λ v. step_passes limits (S.document source.now) (spec.select (expression query.now)) (map node rows.now) ≡ []) }
     ensures within { IfOk result (AreIn (S.document source.now)) }
     ensures few { IfOk result (λ v. length (items_of v) ≤ limits.items) }
-    ensures stop { IfErr result (λ s. IsFirst s (step_passes limits (S.document source.now) (spec.select (expression query.now)) (items_of items.now))) }
+    ensures stop { IfErr result (λ s. IsFirst s (step_passes limits (S.document source.now) (spec.select (expression query.now)) (map node rows.now))) }
+{
+    if gives_nodes(query) {
+        let found = select_rows(alloc, source, query, rows, limits)?;
+        return Ok(Items::Rows(found));
+    }
+    let found = select_texts(alloc, source, query, rows, limits)?;
+    Ok(Items::Texts(found))
+}
+
+/// What a query gives at the items. Texts give nothing: there are none where a query stands.
+fn select_items<S: Axes>(
+    alloc: Global,
+    source: &S,
+    query: &Typed,
+    items: Items,
+    limits: Limits,
+) -> Result<Items, Stop>
+    requires within { AreIn (S.document source.now) items }
+    requires few { length (items_of items) ≤ limits.items }
+    ensures items { IfOk result (λ v. items_of v ≡ step_items (S.document source.now) (spec.select (expression query.now)) (items_of items)) }
+    ensures passes { IfOk result (λ v. step_passes limits (S.document source.now) (spec.select (expression query.now)) (items_of items) ≡ []) }
+    ensures within { IfOk result (AreIn (S.document source.now)) }
+    ensures few { IfOk result (λ v. length (items_of v) ≤ limits.items) }
+    ensures stop { IfErr result (λ s. IsFirst s (step_passes limits (S.document source.now) (spec.select (expression query.now)) (items_of items))) }
 {
     match items {
-        Items::Rows(rows) => {
-            if query.shape() == Shape::Nodes {
-                Ok(Items::Rows(select_rows(
-                    alloc,
-                    source,
-                    query,
-                    rows.as_slice(),
-                    limits,
-                )?))
-            } else {
-                Ok(Items::Texts(select_texts(
-                    alloc,
-                    source,
-                    query,
-                    rows.as_slice(),
-                    limits,
-                )?))
-            }
-        }
+        Items::Rows(rows) => select(alloc, source, query, rows.as_slice(), limits),
         Items::Texts(_) => Ok(Items::Texts(Vec::new(alloc))),
     }
 }
@@ -79,7 +96,8 @@ fn search<S: Axes>(
     ensures stop { IfErr result (λ s. IsFirst s (step_passes limits (S.document source.now) (spec.search (chars (regex_source regex.now))) (items_of items))) }
 {
     let texts = texts_of(alloc, source, items, limits.bytes)?;
-    Ok(Items::Texts(search_texts(alloc, regex, texts.as_slice(), limits)?))
+    let found = search_texts(alloc, regex, texts.as_slice(), limits)?;
+    Ok(Items::Texts(found))
 }
 
 /// What a step gives.
@@ -100,7 +118,7 @@ fn give<S: Axes>(
     ensures stop { IfErr result (λ s. IsFirst s (step_passes limits (S.document source.now) (action_of step.now) (items_of items))) }
 {
     match step {
-        Ready::Query(query) => select(alloc, source, query, &items, limits),
+        Ready::Query(query) => select_items(alloc, source, query, items, limits),
         Ready::Match(regex) => search(alloc, source, regex, items, limits),
     }
 }
@@ -113,7 +131,7 @@ fn give_all<S: Axes>(
     x: u32,
     limits: Limits,
 ) -> Result<Items, Stop>
-    requires usable { AreUsable steps.now }
+    requires usable { All IsUsable steps.now }
     requires within { x < length (S.document source.now) }
     requires some { 0 < limits.items }
     ensures items { IfOk result (λ v. items_of v ≡ last_items (S.document source.now) (node x ∷ []) (map action_of steps.now)) }
@@ -125,7 +143,8 @@ fn give_all<S: Axes>(
     rows.push(x)?;
     let mut items = Items::Rows(rows);
     for step in steps {
-        items = give(alloc, source, step, items, limits)?;
+        let next = give(alloc, source, step, items, limits)?;
+        items = next;
     }
     Ok(items)
 }
@@ -168,7 +187,7 @@ pub fn run_steps<S: Axes>(
     x: u32,
     limits: Limits,
 ) -> Result<FieldValue, Stop>
-    requires usable { AreUsable steps.now }
+    requires usable { All IsUsable steps.now }
     requires within { x < length (S.document source.now) }
     requires some { 0 < limits.items }
     ensures value { IfOk result (λ v. v ≡ answer limits (S.document source.now) x (map action_of steps.now) end) }

@@ -1,5 +1,6 @@
 use Rattle.std.proofs.Common.{◌≡◌, sym, ◌∙◌, ap, subst, refl}
 use Rattle.std.proofs.lemmas.Result.{err_from_is_err_and}
+use Rattle.query_chain.proofs.Errors.{moved}
 use Rattle.regex.specs.Strings.{matcher_pattern}
 use Rattle.query_chain.proofs.Matching.{along_start, along_step, along_end, along_many, fewer_left}
 use Rattle.query_chain.proofs.search.add_matches.Goals as goal
@@ -24,7 +25,7 @@ pub returns-in_err-end-clause-many : goal.returns-in_err-end-clause-many
 returns-in_err-end-clause-many c =
     let p = err_from_is_err_and c.from_residual.result c.from_residual.ensures.1 in
     rw (p.1, p.2) (λ e.
-    let n = rw c.loop-end.invariant.same at (c.in_err-end.ensures.many e) in
+    let n = rw c.loop-end.invariant.same at (c.in_err-end.ensures.many (moved _ _ e)) in
     along_many c.args.limits c.args.out.now _ (matcher_pattern c.args.matcher.now) c.args.text.now c.args.groups c.loop-end.after n.0 n.1 n.2 c.loop-end.invariant.along)
 
 pub returns-clause-ok : goal.returns-clause-ok
