@@ -28,22 +28,22 @@ abbrev Stop : ℕ → List Term → Type 0
 Stop k [] = Unit {0}
 Stop k (w ∷ ws) = k < tier_of w
 
-abbrev begins_path : Term → Bool
+abbrev pub begins_path : Term → Bool
 begins_path t.Slash = true
 begins_path t.DoubleSlash = true
 begins_path w = p.begins_primary w || p.begins_step w
 
-abbrev Starts : ℕ → Term → Type 0
+abbrev pub Starts : ℕ → Term → Type 0
 Starts k w = (begins_path w ≡ true) ⊎ ((w ≡ t.Minus) × (2 ≤ k))
 
-record First (P : Term → Type 0) (ts : List Term) : Type 0 where
-  head : Term
-  tail : List Term
-  is : ts ≡ head ∷ tail
-  fits : P head
+pub record First (P : Term → Type 0) (ts : List Term) : Type 0 where
+  pub head : Term
+  pub tail : List Term
+  pub is : ts ≡ head ∷ tail
+  pub fits : P head
 
 -- what the tokens of a node begin with
-abbrev Begins : List Term → Node → Type 0
+abbrev pub Begins : List Term → Node → Type 0
 Begins ts (g.at k x) = First (Starts k) ts
 Begins ts (g.signed n x) = First (Starts 2) ts
 Begins ts (g.primary x) = First (λ w. p.begins_primary w ≡ true) ts
@@ -85,7 +85,7 @@ starts_up : (k j : ℕ) → k ≤ j → (w : Term) → Starts k w → Starts j w
 starts_up k j le w (inl h) = inl h
 starts_up k j le w (inr h) = inr (h.0, omega (arith, h.1))
 
-begins : {ts : List Term} {node : Node} → Reads ts node → Begins ts node
+pub begins : {ts : List Term} {node : Node} → Reads ts node → Begins ts node
 begins (g.path_here r) = weaker (λ w h. inl (step_path w h)) (begins r)
 begins g.path_root = record { head = t.Slash; tail = []; is = refl; fits = inl refl }
 begins (g.path_from_root r) = record { head = t.Slash; tail = _; is = refl; fits = inl refl }

@@ -1,5 +1,5 @@
 -- Each text reads as an expression, or is refused for one reason.
-use Rattle.std.proofs.Common.{◌≡◌, refl, sym, ◌∙◌, ap, subst, ℕ, zero, suc, ◌+◌, ◌≤◌, Bool, true, false, List, [], ◌∷◌, length, take, count_by, Option, Some, None, arith, ◌⊎◌, inl, inr}
+use Rattle.std.proofs.Common.{◌≡◌, refl, sym, ◌∙◌, ap, subst, ℕ, zero, suc, ◌+◌, ◌≤◌, Bool, true, false, List, [], ◌∷◌, length, take, count_by, Option, Some, None, arith, append-nil, ◌⊎◌, inl, inr}
 use Rattle.std.specs.List.{list_any}
 use Rattle.std.proofs.lemmas.Bool.{cases_lt}
 use Rattle.text_base.specs.declared.reasons.XPathFault.{XPathFault}
@@ -18,7 +18,9 @@ use Rattle.xpath_parser.specs.Reading.{most_bytes}
 use Rattle.xpath_parser.specs.Faults as f
 use Rattle.xpath_parser.specs.Faults.{IsFit, IsXPathFault, first_fault, fault_at, argument_count}
 use Rattle.xpath_parser.specs.Laws.{IsRead, IsRefused}
-use Rattle.xpath_parser.proofs.Complete.{found}
+use Rattle.xpath_parser.specs.Reading.{ReadsAs}
+use Rattle.xpath_parser.proofs.Arguments.{calls_fit, calls}
+use Rattle.xpath_parser.proofs.Complete.{found, one_reading}
 use Rattle.xpath_parser.proofs.Sound.{reads}
 
 -- ---- each question has an answer
@@ -141,3 +143,36 @@ one_fault text p q (f.wrong_type l s d u) (f.too_deep m r k) = absurd (k (subst 
 one_fault text p q (f.wrong_type {x = x} l s d u) (f.unread m k) = absurd (k x (subst (λ (ws : List Lexeme). ReadsWhole (terms ws) x) (same_terms l.spelled m.spelled) s))
 one_fault text p q (f.wrong_type l s d u) (f.at_token m r e) = let no : None ≡ Some q = sym d ∙ ap (λ (ws : List Lexeme). first_fault (terms ws)) (same_terms l.spelled m.spelled) ∙ e in cc
 one_fault text p q (f.wrong_type l s d u) (f.wrong_type m r e v) = refl
+
+-- ---- and never both
+
+-- a list whose functions have their numbers of arguments, and none of whose terms is refused, has no fault
+no_fault : (ts : List Term) → calls_fit ts ≡ true → list_any is_refused ts ≡ false → first_fault ts ≡ None
+no_fault [] c h = refl
+no_fault (t.Fraction ∷ ts) c h = cc
+no_fault (t.TooLarge ∷ ts) c h = cc
+no_fault (t.Div ∷ ts) c h = cc
+no_fault (t.Variable ∷ ts) c h = cc
+no_fault (t.Prefixed ∷ ts) c h = cc
+no_fault (t.UnknownFunction ∷ ts) c h = cc
+no_fault (t.Function g ∷ ts) c h = by_count (takes g (argument_count ts)) refl (no_fault ts)
+  where
+    by_count : (v : Bool) → takes g (argument_count ts) ≡ v → (calls_fit ts ≡ true → list_any is_refused ts ≡ false → first_fault ts ≡ None) → first_fault (t.Function g ∷ ts) ≡ None
+    by_count true e ih = let rest : calls_fit ts ≡ true = rw e at c in rw e (ih rest h)
+    by_count false e ih = let no : false ≡ true = rw e at c in cc
+no_fault (_ ∷ ts) c h = no_fault ts c h
+
+fault_free : (ts : List Term) (x : Expr) → ReadsWhole ts x → is_well_typed x ≡ true → list_any is_refused ts ≡ false → first_fault ts ≡ None
+fault_free ts x r typed h = no_fault ts (ap calls_fit (sym (append-nil ts)) ∙ calls r typed []) h
+
+pub never_both : (text : Text) (x : Expr) (p : XPathFault) → ReadsAs text x → IsXPathFault text p → ⊥
+never_both text x p r (f.too_long l) = absurd (omega (arith, r.short))
+never_both text x p r (f.unspelled l n) = n r.lexemes r.spelled
+never_both text x p r (f.too_deep l s n) = n (subst IsShallow (same_terms r.spelled s) r.shallow)
+never_both text x p r (f.unread l n) = n x (subst (λ (ws : List Lexeme). ReadsWhole (terms ws) x) (same_terms r.spelled l.spelled) r.reads)
+never_both text x p r (f.at_token l s d) =
+    let none = fault_free (terms r.lexemes) x r.reads r.typed r.accepted in
+    let no : None ≡ Some p = sym none ∙ ap (λ (ws : List Lexeme). first_fault (terms ws)) (same_terms r.spelled l.spelled) ∙ d in cc
+never_both text x p r (f.wrong_type {ws = ws} {x = y} l s d v) =
+    let same : x ≡ y = one_reading (terms ws) x y (subst (λ (ws : List Lexeme). ReadsWhole (terms ws) x) (same_terms r.spelled l.spelled) r.reads) s in
+    let no : true ≡ false = sym r.typed ∙ ap is_well_typed same ∙ v in cc

@@ -5,6 +5,7 @@ pub mod Faults
 pub mod Functions
 pub mod Grammar
 pub mod Laws
+pub mod Levels
 pub mod Names
 pub mod Parsing
 pub mod Reader

@@ -96,12 +96,10 @@ impl<F: Fn(Global, &mut Cursor<'_>, usize) -> Result<Expr, Refusal>> Grammar<F> 
         requires { Nests self.now.depth (F.pre self.now.nested) (F.post self.now.nested) }
         ensures { Gives (spec.tested (spec.expr self.now.depth) axis terms.old) result terms.new }
     {
-        let test = node_test(self.alloc, terms)?;
-        let predicates = self.predicates(terms)?;
         Ok(Step {
             axis,
-            test,
-            predicates,
+            test: node_test(self.alloc, terms)?,
+            predicates: self.predicates(terms)?,
         })
     }
 

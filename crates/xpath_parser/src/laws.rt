@@ -1,4 +1,4 @@
-ghost use Rattle.xpath_parser.specs.Laws.{FoundExactly, OneExpression, OneFault, OneReading, ReadOrRefused};
+ghost use Rattle.xpath_parser.specs.Laws.{FoundExactly, LevelsCut, NeverBoth, NoneLooser, OneExpression, OneFault, OneReading, ReadOrRefused};
 
 /// The grammar of XPath 1.0 reads a list of terms as at most one expression.
 pub fn one_reading()
@@ -23,4 +23,19 @@ pub fn one_fault()
 /// Each text reads as an expression or is refused.
 pub fn read_or_refused()
     ensures { ReadOrRefused }
+{}
+
+/// No text reads as an expression and is refused.
+pub fn never_both()
+    ensures { NeverBoth }
+{}
+
+/// Each level is cut at all of its operators outside brackets, of which a `-` that is a sign is none.
+pub fn levels_cut()
+    ensures { LevelsCut }
+{}
+
+/// Outside brackets, an operand has no operator that joins more loosely.
+pub fn none_looser()
+    ensures { NoneLooser }
 {}

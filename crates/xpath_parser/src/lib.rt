@@ -15,12 +15,17 @@ mod refusal;
 mod shapes;
 mod term;
 mod terms;
+#[cfg(test)]
+mod tests;
 mod tiers;
 mod typed;
 mod whole;
 
 pub use expression::{Expr, Func, Infix, Operand, Start, Step};
-pub use laws::{found_exactly, one_expression, one_fault, one_reading, read_or_refused};
+pub use laws::{
+    found_exactly, levels_cut, never_both, none_looser, one_expression, one_fault, one_reading,
+    read_or_refused,
+};
 pub use parse::parse_xpath;
 pub use term::{NodeType, Term};
 pub use typed::Typed;
