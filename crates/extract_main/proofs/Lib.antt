@@ -5,6 +5,7 @@ pub mod Forms
 pub mod OutputLemmas
 pub mod PageAnswers
 pub mod PageBytes
+pub mod PageExists
 pub mod PageReadings
 pub mod Plans
 pub mod Readers

@@ -27,14 +27,12 @@ some_values doc (f ∷ fields) h =
 of_text : (fields : List Field) → AllByRecursion IsOrdered fields → (name bytes text : List ℕ) → length bytes ≤ most_page → decoded bytes ≡ Ok text → PageAnswer text
     → (a : Answer) × IsPageLine fields name bytes a
 of_text fields ordered name bytes text short decodes (inl built) =
-    let values : (vs : List FieldValue) × AreValues built.0 fields vs = some_values built.0 fields ordered in
-    (
+    let values : (vs : List FieldValue) × AreValues built.0 fields vs = some_values built.0 fields ordered in (
       record { text = page_text name fields values.0; refused = list_any is_refused values.0 },
       inr (record { short = short; text = text; decodes = decodes; doc = built.0; builds = built.1; values = values.0; are = values.1; line = refl }),
     )
 of_text fields ordered name bytes text short decodes (inr (reason, at, fault)) =
-    let why : PageFault = record { reason = reason; at = at } in
-    (
+    let why : PageFault = record { reason = reason; at = at } in (
       record { text = refused_text name why; refused = true },
       inl (record { fault = why; cause = inr (inr (record { short = short; text = text; decodes = decodes; is = fault })); line = refl }),
     )

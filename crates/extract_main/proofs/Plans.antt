@@ -1,6 +1,8 @@
 -- Each command has one plan at most.
 use Rattle.std.proofs.Common.{◌≡◌, refl, ℕ, ◌<◌, ◌≤◌, true, false, List, ◌++◌, length, ap, ap₂, sym, ◌∙◌, subst, Option, Some, None, arith, inl, inr, ◌⊎◌, codes}
-use Rattle.std.specs.Prelude.{Result, IfOk, IsOkAnd, Ok, Err}
+use Rattle.std.specs.Prelude.{Result, IfOk, IsOk, IsOkAnd, Ok, Err}
+use Rattle.std.specs.List.{AllByRecursion}
+use Rattle.query_script.specs.Ordered.{IsOrdered}
 use Rattle.std.proofs.Math.Path.{fun_ext}
 use Rattle.std.proofs.lemmas.Result.{IfOk-weaker}
 use Rattle.text_base.specs.declared.memory.NoMemory.{NoMemory}
@@ -147,3 +149,27 @@ of_command d e text other says {Ends = Ends} keeps =
     let two : text ≡ other = (let y = says in cc) in
     let P : Dialect → List ℕ → Type 0 = λ x t. (list : SelectorList) → Accepts t list → Ends → IsKept x list in
     subst (λ (x : Dialect). P x other) one (subst (λ (t : List ℕ). P d t) two keeps)
+
+-- what is said of the words' script is said of any script that they give
+pub of_run : (d e : Dialect) (text other : List ℕ) (names pages : List (List ℕ)) → Some (run d text names) ≡ Some (run e other pages)
+    → {Ends : Type 0} → ((fields : List Field) → IsScript d text fields → Ends → AllByRecursion IsOrdered fields)
+    → (fields : List Field) → IsScript e other fields → Ends → AllByRecursion IsOrdered fields
+of_run d e text other names pages says {Ends = Ends} queries =
+    let one : d ≡ e = (let y = says in cc) in
+    let two : text ≡ other = (let y = says in cc) in
+    let P : Dialect → List ℕ → Type 0 = λ x t. (fields : List Field) → IsScript x t fields → Ends → AllByRecursion IsOrdered fields in
+    subst (λ (x : Dialect). P x other) one (subst (λ (t : List ℕ). P d t) two queries)
+
+-- ---- where a line was made, there is a plan
+
+pub css_planned : (d : Dialect) (text : List ℕ) (made : Result Line NoMemory) → IsOk made → IfOk made (λ l. IsCssLine d text (answer_of l)) → (plan : Plan) × IsPlan (css d text) plan
+css_planned d text (Ok l) ok h = (alone (answer_of l), h)
+css_planned d text (Err e) ok h = let no = ok in absurd (cc)
+
+pub bulk_planned : (n : ℕ) (made : Result Line NoMemory) → IsOk made → IfOk made (λ l. IsBulkLine n (answer_of l)) → (plan : Plan) × IsPlan (bulk n) plan
+bulk_planned n (Ok l) ok h = (alone (answer_of l), h)
+bulk_planned n (Err e) ok h = let no = ok in absurd (cc)
+
+pub refusal_planned : (d : Dialect) (s : List ℕ) (names : List (List ℕ)) (made : Result Line NoMemory) → IsOk made → IfOk made (λ l. IsScriptRefused s (answer_of l)) → (plan : Plan) × IsPlan (run d s names) plan
+refusal_planned d s names (Ok l) ok h = (alone (answer_of l), h)
+refusal_planned d s names (Err e) ok h = let no = ok in absurd (cc)

@@ -6,12 +6,13 @@ use Rattle.css_meaning.specs.declared.selector.Dialect.{Dialect}
 use Rattle.doc_model.specs.Document.{Document}
 use Rattle.html_reader.specs.Pages.{BuildsPage, IsPageFault}
 use Rattle.html_reader.proofs.FaultLemmas.{one_page_document, one_page_fault, never_both_of_page}
-use Rattle.query_script.proofs.Unique.{one_script_fault as one_reason, read_or_refused as not_both}
+use Rattle.xpath_parser.proofs.Refused.{never_both as never_both_read}
+use Rattle.query_script.proofs.Unique.{one_script as one_reading, one_script_fault as one_reason, read_or_refused as not_both}
 use Rattle.query_script.specs.declared.script.Field.{Field}
 use Rattle.query_script.specs.Fields.{IsScript, IsScriptFault}
 
 pub one_script : (d : Dialect) (text : List ℕ) (fields other : List Field) → IsScript d text fields → IsScript d text other → fields ≡ other
-one_script = ?
+one_script = one_reading never_both_read
 
 pub one_script_fault : (text : List ℕ) (fault other : ScriptFault) → IsScriptFault text fault → IsScriptFault text other → fault ≡ other
 one_script_fault = one_reason

@@ -1,5 +1,5 @@
 //! Lines given to the sink.
-ghost use Rattle.std.specs.Prelude.{◌≡◌, ◌≢◌, ◌≤◌, ℕ, List, Option, false, IfOk, IsOkAnd, IsErrOf, OnErr, Err};
+ghost use Rattle.std.specs.Prelude.{◌≡◌, ◌≢◌, ◌≤◌, ℕ, List, Option, false, IfOk, IsOk, IsOkAnd, IsErrOf, OnErr, Err};
 ghost use Rattle.io_edges.specs.Counts.{Rose};
 ghost use Rattle.io_edges.specs.Sink.{grown, TakesPart};
 ghost use Rattle.extract_main.specs.Answers.{Answer, answer_of, line_bytes};
@@ -37,6 +37,7 @@ pub fn write_alone<W: Sink>(made: Result<Line, NoMemory>, sink: &mut W) -> Statu
         Ended (alone a) told b b f f (W.taken sink.old) (W.taken sink.new) (W.faults sink.old) (W.faults sink.new) result }
     ensures done { result ≡ Status.Done → IsOkAnd made (λ line. line.refused ≡ false) }
     ensures write_fault { result ≡ Status.WriteFault → Rose (W.faults sink.old) (W.faults sink.new) }
+    ensures made { result ≢ Status.Memory → IsOk made }
     ensures other { (result ≢ Status.Usage) × (result ≢ Status.ReadFault) }
 {
     let Ok(line) = made else {
