@@ -14,21 +14,21 @@ use Rattle.doc_model.proofs.Below.{Small, small, below_cases, below_less, below_
 
 -- ---- tests
 
-attribute_kind : (k : Kind) → is_attribute_kind k ≡ true → k ≡ Attribute
+pub attribute_kind : (k : Kind) → is_attribute_kind k ≡ true → k ≡ Attribute
 attribute_kind Attribute h = refl
 attribute_kind Root h = cc
 attribute_kind Element h = cc
 attribute_kind Text h = cc
 attribute_kind Comment h = cc
 
-not_parent : (doc : Document) (x y : ℕ) → (0 < y → (row doc y).parent ≡ x → ⊥) → is_parent doc x y ≡ false
+pub not_parent : (doc : Document) (x y : ℕ) → (0 < y → (row doc y).parent ≡ x → ⊥) → is_parent doc x y ≡ false
 not_parent doc x y never = false_from_ne_true _ (λ h. let two = and_parts _ _ h in never (ltb-true 0 y two.0) (eqb-true _ _ two.1))
 
-and_true : (a b : Bool) → b ≡ true → (a && b) ≡ a
+pub and_true : (a b : Bool) → b ≡ true → (a && b) ≡ a
 and_true true b h = h
 and_true false b h = refl
 
-true_and : (a b : Bool) → a ≡ true → (a && b) ≡ b
+pub true_and : (a b : Bool) → a ≡ true → (a && b) ≡ b
 true_and a b h = ap (λ v. v && b) h
 
 not_false : (b : Bool) → b ≡ false → not b ≡ true
@@ -38,7 +38,7 @@ eqb_comm : (a b : ℕ) → eqb a b ≡ eqb b a
 eqb_comm a b = elim (cases_eq a b) [ inl e ↦ eq-eqb a b e ∙ sym (eq-eqb b a (sym e)) | inr e ↦ ne_eqb a b e ∙ sym (ne_eqb b a (λ f. e (sym f))) ]
 
 -- the parent of a row below y is y or stands after it
-parent_from : (doc : Document) (y z : ℕ) → Small doc → below doc y z ≡ true → y ≤ (row doc z).parent
+pub parent_from : (doc : Document) (y z : ℕ) → Small doc → below doc y z ≡ true → y ≤ (row doc z).parent
 parent_from doc y z m h = elim (below_cases doc y z m h) [ inl e ↦ omega arith | inr b ↦ (let l : y < (row doc z).parent = below_less doc y (row doc z).parent m b in omega arith) ]
 
 -- nothing is on the axis

@@ -1,5 +1,5 @@
 -- Characters that are written as references. The code 160 is that of the no-break space.
-use Rattle.std.specs.Prelude.{ℕ, List, [], ◌∷◌, ◌==◌, if◌then◌else◌, flat_map, codes}
+use Rattle.std.specs.Prelude.{ℕ, Bool, ◌||◌, List, [], ◌∷◌, ◌==◌, if◌then◌else◌, flat_map, codes}
 
 -- how a character of a text is written
 abbrev pub text_escape : ℕ → List ℕ
@@ -15,3 +15,14 @@ escaped_text text = flat_map text_escape text
 
 abbrev pub escaped_value : List ℕ → List ℕ
 escaped_value value = flat_map value_escape value
+
+-- either, a value where it stands in quotes
+abbrev pub escape : Bool → ℕ → List ℕ
+escape quoted c = if quoted then value_escape c else text_escape c
+
+abbrev pub escaped : Bool → List ℕ → List ℕ
+escaped quoted text = flat_map (escape quoted) text
+
+-- every other character is written as it is
+abbrev pub is_special : ℕ → Bool
+is_special c = (c == 38) || ((c == 60) || ((c == 62) || ((c == 34) || (c == 160))))

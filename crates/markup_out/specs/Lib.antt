@@ -1,4 +1,7 @@
+pub mod Adding
+pub mod Content
 pub mod Escapes
 pub mod Laws
 pub mod Markup
 pub mod Names
+pub mod Views

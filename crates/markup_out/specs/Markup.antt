@@ -29,13 +29,16 @@ end_tag doc x = codes "</" ++ ((row doc x).name ++ codes ">")
 abbrev pub text_markup : Document → ℕ → List ℕ
 text_markup doc x = if is_raw (row doc (row doc x).parent).name then (row doc x).text else escaped_text (row doc x).text
 
+abbrev pub comment_markup : Document → ℕ → List ℕ
+comment_markup doc x = codes "<!--" ++ ((row doc x).text ++ codes "-->")
+
 -- the markup of a row, where that of its children is `content`
 abbrev pub markup_of : Kind → Document → ℕ → List ℕ → List ℕ
 markup_of Root doc x content = content
 markup_of Element doc x content = start_tag doc x ++ (if is_void (row doc x).name then [] else content ++ end_tag doc x)
 markup_of Attribute doc x content = escaped_value (row doc x).text
 markup_of Text doc x content = text_markup doc x
-markup_of Comment doc x content = codes "<!--" ++ ((row doc x).text ++ codes "-->")
+markup_of Comment doc x content = comment_markup doc x
 
 -- the markup of x, down to that many levels
 unfoldable pub markup_within : ℕ → Document → ℕ → List ℕ

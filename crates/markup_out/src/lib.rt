@@ -1,6 +1,14 @@
 //! Rows written as HTML markup.
 #![tactic(auto)]
 
+mod escapes;
+mod laws;
+mod names;
+mod output;
+mod tags;
+#[cfg(test)]
+mod tests;
 mod writing;
 
+pub use laws::markup_of_children;
 pub use writing::{TooLarge, markup};

@@ -1,0 +1,135 @@
+//! What stands before and after the content of a row.
+ghost use Rattle.std.specs.Prelude.{◌≡◌, ◌<◌, length, flat_map, OnOk, IfOk};
+ghost use Rattle.doc_model.specs.Document.{row, is_attribute};
+ghost use Rattle.doc_model.specs.declared.Kind.TheVariants as kind;
+ghost use Rattle.markup_out.specs.Adding.{Adds};
+ghost use Rattle.markup_out.specs.Content.{before, after, Begins, EndsOwn};
+ghost use Rattle.markup_out.specs.Markup.{attribute_markup, attributes, start_tag, end_tag, text_markup, comment_markup};
+
+use crate::escapes::push_escaped;
+use crate::names::{is_raw, is_void};
+use crate::output::Output;
+use doc_model::{Kind, Tree};
+use text_base::NoMemory;
+
+fn is_attribute<T: Tree>(tree: &T, r: u32) -> bool
+    requires { r < length (T.document tree.now) }
+    ensures { result ≡ is_attribute (T.document tree.now) r }
+{
+    matches!(tree.kind(r), Kind::Attribute)
+}
+
+/// ` name="value"`
+fn push_attribute<T: Tree>(tree: &T, r: u32, out: &mut Output) -> Result<(), NoMemory>
+    requires { r < length (T.document tree.now) }
+    ensures { OnOk result (Adds out.old out.new (attribute_markup (T.document tree.now) r)) }
+{
+    out.push(" ")?;
+    out.push(tree.name(r))?;
+    out.push("=\"")?;
+    push_escaped(out, true, tree.text(r))?;
+    out.push("\"")
+}
+
+/// Writes the attributes of an element, and gives the row after them.
+fn push_attributes<T: Tree>(tree: &T, x: u32, out: &mut Output) -> Result<u32, NoMemory>
+    requires row { x < length (T.document tree.now) }
+    requires element { (row (T.document tree.now) x).kind ≡ kind.Element }
+    ensures adds { OnOk result (Adds out.old out.new (flat_map (attribute_markup (T.document tree.now)) (attributes (T.document tree.now) x))) }
+    ensures end { IfOk result (λ e. EndsOwn (T.document tree.now) x e) }
+{
+    let len = tree.len();
+    let mut r = x + 1;
+    while r < len && is_attribute(tree, r) {
+        push_attribute(tree, r, out)?;
+        r += 1;
+    }
+    Ok(r)
+}
+
+/// `<name attributes>`, and the row after the attributes.
+fn push_start_tag<T: Tree>(tree: &T, x: u32, out: &mut Output) -> Result<u32, NoMemory>
+    requires row { x < length (T.document tree.now) }
+    requires element { (row (T.document tree.now) x).kind ≡ kind.Element }
+    ensures adds { OnOk result (Adds out.old out.new (start_tag (T.document tree.now) x)) }
+    ensures end { IfOk result (λ e. EndsOwn (T.document tree.now) x e) }
+{
+    out.push("<")?;
+    out.push(tree.name(x))?;
+    let end = push_attributes(tree, x, out)?;
+    out.push(">")?;
+    Ok(end)
+}
+
+/// An element's start tag, and the row at which its content begins: a void element's at its end.
+fn push_element<T: Tree>(tree: &T, x: u32, out: &mut Output) -> Result<u32, NoMemory>
+    requires row { x < length (T.document tree.now) }
+    requires element { (row (T.document tree.now) x).kind ≡ kind.Element }
+    ensures adds { OnOk result (Adds out.old out.new (start_tag (T.document tree.now) x)) }
+    ensures begins { IfOk result (λ y. Begins (T.document tree.now) x y) }
+{
+    let content = push_start_tag(tree, x, out)?;
+    if is_void(tree.name(x)) {
+        return Ok(tree.end(x));
+    }
+    Ok(content)
+}
+
+/// A text, as it is in some elements, or escaped.
+fn push_text<T: Tree>(tree: &T, x: u32, out: &mut Output) -> Result<(), NoMemory>
+    requires { x < length (T.document tree.now) }
+    ensures { OnOk result (Adds out.old out.new (text_markup (T.document tree.now) x)) }
+{
+    if is_raw(tree.name(tree.parent(x))) {
+        out.push(tree.text(x))
+    } else {
+        push_escaped(out, false, tree.text(x))
+    }
+}
+
+/// `<!--text-->`
+fn push_comment<T: Tree>(tree: &T, x: u32, out: &mut Output) -> Result<(), NoMemory>
+    requires { x < length (T.document tree.now) }
+    ensures { OnOk result (Adds out.old out.new (comment_markup (T.document tree.now) x)) }
+{
+    out.push("<!--")?;
+    out.push(tree.text(x))?;
+    out.push("-->")
+}
+
+/// Writes what stands before the content of a row, and gives the row at which the content begins.
+pub fn push_before<T: Tree>(tree: &T, x: u32, out: &mut Output) -> Result<u32, NoMemory>
+    requires { x < length (T.document tree.now) }
+    ensures adds { OnOk result (Adds out.old out.new (before (T.document tree.now) x)) }
+    ensures begins { IfOk result (λ y. Begins (T.document tree.now) x y) }
+{
+    match tree.kind(x) {
+        Kind::Element => return push_element(tree, x, out),
+        Kind::Root => {}
+        Kind::Attribute => push_escaped(out, true, tree.text(x))?,
+        Kind::Text => push_text(tree, x, out)?,
+        Kind::Comment => push_comment(tree, x, out)?,
+    }
+    Ok(x + 1)
+}
+
+/// `</name>`
+fn push_end_tag<T: Tree>(tree: &T, x: u32, out: &mut Output) -> Result<(), NoMemory>
+    requires { x < length (T.document tree.now) }
+    ensures { OnOk result (Adds out.old out.new (end_tag (T.document tree.now) x)) }
+{
+    out.push("</")?;
+    out.push(tree.name(x))?;
+    out.push(">")
+}
+
+/// Writes what stands after the content of a row.
+pub fn push_after<T: Tree>(tree: &T, x: u32, out: &mut Output) -> Result<(), NoMemory>
+    requires { x < length (T.document tree.now) }
+    ensures { OnOk result (Adds out.old out.new (after (T.document tree.now) x)) }
+{
+    if matches!(tree.kind(x), Kind::Element) && !is_void(tree.name(x)) {
+        return push_end_tag(tree, x, out);
+    }
+    Ok(())
+}
