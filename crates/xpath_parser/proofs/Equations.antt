@@ -29,7 +29,7 @@ any_map : {A B : Type 0} (g : A → B) (t : B → Bool) (xs : List A) → list_a
 any_map g t [] = refl
 any_map g t (x ∷ xs) = ap (λ b. t (g x) || b) (any_map g t xs)
 
-all_map : {A B : Type 0} (g : A → B) (t : B → Bool) (xs : List A) → list_all t (map g xs) ≡ list_all (λ x. t (g x)) xs
+pub all_map : {A B : Type 0} (g : A → B) (t : B → Bool) (xs : List A) → list_all t (map g xs) ≡ list_all (λ x. t (g x)) xs
 all_map g t [] = refl
 all_map g t (x ∷ xs) = ap (λ b. t (g x) && b) (all_map g t xs)
 

@@ -52,7 +52,7 @@ read_by ts (Some (x, w ∷ ws)) e = inr (λ y r. (let h : reader.expr (suc (leng
     let no : w ∷ ws ≡ [] = ap (λ (q : Expr × List Term). q.1) same in cc))
 
 -- a list without a fault has no term that is refused
-accepted : (ts : List Term) → first_fault ts ≡ None → list_any is_refused ts ≡ false
+pub accepted : (ts : List Term) → first_fault ts ≡ None → list_any is_refused ts ≡ false
 accepted [] h = refl
 accepted (t.Fraction ∷ ts) h = cc
 accepted (t.TooLarge ∷ ts) h = cc

@@ -1,11 +1,15 @@
 pub mod Conversions
 pub mod Denote
+pub mod Depth
 pub mod Faults
 pub mod Functions
 pub mod Grammar
 pub mod Laws
+pub mod Names
+pub mod Parsing
 pub mod Reader
 pub mod Reading
 pub mod Shapes
 pub mod Terms
 pub mod Typed
+pub mod Typings

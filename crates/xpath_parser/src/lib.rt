@@ -1,11 +1,23 @@
 //! XPath text: what it reads as, of which type that is, and what it means in a document.
 #![tactic(auto)]
 
+mod cursor;
+mod depth;
 mod expression;
+mod faults;
+mod grammar;
 mod laws;
+mod names;
+mod numbers;
 mod parse;
+mod pieces;
+mod refusal;
+mod shapes;
 mod term;
+mod terms;
+mod tiers;
 mod typed;
+mod whole;
 
 pub use expression::{Expr, Func, Infix, Operand, Start, Step};
 pub use laws::{found_exactly, one_expression, one_fault, one_reading, read_or_refused};

@@ -1,12 +1,67 @@
-ghost use Rattle.std.specs.Prelude.{◌≢◌, IfOk, IfErr};
+ghost use Rattle.std.specs.Prelude.{◌≡◌, ◌≢◌, ◌<◌, ◌^◌, false, length, map, IfOk, IfErr};
 ghost use Rattle.text_base.specs.declared.reasons.XPathFault.TheVariants as fault;
-ghost use Rattle.xpath_parser.specs.Faults.{IsXPathFault};
+ghost use Rattle.xpath_lexer.specs.Places.{lexeme_of};
+ghost use Rattle.xpath_parser.specs.declared.expression.Expr.{Expr as ExprValue};
+ghost use Rattle.xpath_parser.specs.Faults.{IsFit, IsXPathFault};
+ghost use Rattle.xpath_parser.specs.Grammar.{ReadsWhole};
 ghost use Rattle.xpath_parser.specs.Reading.{ReadsAs};
+ghost use Rattle.xpath_parser.specs.Terms.{terms};
 ghost use Rattle.xpath_parser.specs.Typed.{expression};
 
+use crate::depth::is_shallow;
+use crate::expression::Expr;
+use crate::faults::first_fault;
+use crate::refusal::Refusal;
+use crate::shapes::typing;
+use crate::term::Term;
+use crate::terms::terms_of;
 use crate::typed::Typed;
+use crate::whole::read;
 use std::alloc::Global;
-use text_base::XPathFault;
+use text_base::{Seq, XPathFault};
+use xpath_lexer::{XTok, xpath_tokens};
+
+/// The tokens of a text in which not too many brackets are open.
+#[tactic(auto, using(crate::proofs::Fit::few_tokens, crate::proofs::Fit::lexer_fault))]
+fn fit_tokens(alloc: Global, text: &str) -> Result<Seq<XTok>, XPathFault>
+    ensures fit { IfOk result (λ ws. IsFit text.now (map lexeme_of ws)) }
+    ensures few { IfOk result (λ ws. length ws < 2 ^ 32) }
+    ensures fault { IfErr result (λ e. e ≢ fault.Memory → IsXPathFault text.now e) }
+{
+    let tokens = xpath_tokens(alloc, text)?;
+    if is_shallow(tokens.as_slice()) {
+        Ok(tokens)
+    } else {
+        Err(XPathFault::Deep)
+    }
+}
+
+/// The terms of a text in which not too many brackets are open.
+#[tactic(auto, using(crate::proofs::Fit::few_terms))]
+fn fit_terms(alloc: Global, tokens: &[XTok]) -> Result<Seq<Term>, XPathFault>
+    requires { length tokens.now < 2 ^ 32 }
+    ensures value { IfOk result (λ ts. ts ≡ terms (map lexeme_of tokens.now)) }
+    ensures few { IfOk result (λ ts. length ts < 2 ^ 32) }
+    ensures memory { IfErr result (λ e. e ≡ fault.Memory) }
+{
+    match terms_of(alloc, tokens) {
+        Ok(terms) => Ok(terms),
+        Err(_) => Err(XPathFault::Memory),
+    }
+}
+
+/// The expression that the terms read as.
+fn read_terms(alloc: Global, terms: &[Term]) -> Result<Expr, XPathFault>
+    requires { length terms.now < 2 ^ 32 }
+    ensures found { IfOk result (λ x. ReadsWhole terms.now x) }
+    ensures syntax { IfErr result (λ e. e ≢ fault.Memory → (e ≡ fault.Syntax) × ((x : ExprValue) → ReadsWhole terms.now x → ⊥)) }
+{
+    match read(alloc, terms) {
+        Ok(found) => Ok(found),
+        Err(Refusal::Syntax) => Err(XPathFault::Syntax),
+        Err(Refusal::Memory) => Err(XPathFault::Memory),
+    }
+}
 
 /// The expression that an XPath text reads as, XPath 1.0, sections 2 and 3.
 ///
@@ -17,5 +72,15 @@ pub fn parse_xpath(alloc: Global, text: &str) -> Result<Typed, XPathFault>
     ensures ok { IfOk result (λ t. ReadsAs text.now (expression t)) }
     ensures fault { IfErr result (λ e. e ≢ fault.Memory → IsXPathFault text.now e) }
 {
-    Err(XPathFault::Memory)
+    let tokens = fit_tokens(alloc, text)?;
+    let terms = fit_terms(alloc, tokens.as_slice())?;
+    let expr = read_terms(alloc, terms.as_slice())?;
+    if let Some(fault) = first_fault(terms.as_slice()) {
+        return Err(fault);
+    }
+    let (shape, right) = typing(&expr);
+    if !right {
+        return Err(XPathFault::WrongType);
+    }
+    Ok(Typed::new(expr, shape))
 }
