@@ -1,0 +1,13 @@
+pub mod ChainLemmas
+pub mod CutLemmas
+pub mod Exists
+pub mod FieldLemmas
+pub mod KeptLemmas
+pub mod ListLemmas
+pub mod QueryLemmas
+pub mod Reasons
+pub mod SplitLemmas
+pub mod StepLemmas
+pub mod StringLemmas
+pub mod TrimLemmas
+pub mod Unique

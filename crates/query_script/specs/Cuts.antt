@@ -1,5 +1,5 @@
 -- A text cut at bytes that stand outside quotes, and texts without the blanks at their ends.
-use Rattle.std.specs.Prelude.{ℕ, ◌==◌, ◌&&◌, ◌||◌, Bool, List, [], ◌∷◌, if◌then◌else◌}
+use Rattle.std.specs.Prelude.{ℕ, ◌==◌, ◌&&◌, ◌||◌, not, Bool, List, [], ◌∷◌, filter, if◌then◌else◌}
 use Rattle.std.specs.List.{list_all}
 
 -- `"` and `'`
@@ -47,11 +47,10 @@ skip_back (c ∷ text) = if is_blank c && list_all is_blank text then [] else c 
 abbrev pub trimmed : List ℕ → List ℕ
 trimmed text = skip_back (skip_front text)
 
--- the pieces that are not blanks alone
-abbrev pub kept : List (List ℕ) → List (List ℕ)
-kept [] = []
-kept (p ∷ ps) = if list_all is_blank p then kept ps else p ∷ kept ps
+-- not blanks alone
+abbrev pub is_written : List ℕ → Bool
+is_written piece = not (list_all is_blank piece)
 
 -- the pieces of a script that are fields
 abbrev pub fields_of : List ℕ → List (List ℕ)
-fields_of text = kept (pieces ends_field 0 text)
+fields_of text = filter is_written (pieces ends_field 0 text)

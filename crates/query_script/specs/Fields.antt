@@ -1,7 +1,9 @@
 -- What a script reads as.
-use Rattle.std.specs.Prelude.{◌≡◌, ℕ, ◌<◌, ◌≤◌, true, false, List, [], ◌∷◌, length}
+use Rattle.std.specs.Prelude.{◌≡◌, ◌≢◌, ◌⊎◌, ℕ, ◌<◌, ◌≤◌, true, false, List, [], ◌∷◌, length}
 use Rattle.text_base.specs.declared.reasons.ScriptFault.{ScriptFault}
 use Rattle.text_base.specs.declared.reasons.ScriptFault.TheVariants as script
+use Rattle.text_base.specs.declared.reasons.SelectorFault.TheVariants as selector
+use Rattle.text_base.specs.declared.reasons.XPathFault.TheVariants as xpath
 use Rattle.css_meaning.specs.declared.selector.Dialect.{Dialect}
 use Rattle.query_script.specs.declared.script.Chain.{Chain}
 use Rattle.query_script.specs.declared.script.Chain.TheVariants as chain
@@ -17,37 +19,53 @@ use Rattle.query_script.specs.Queries.{AreKept, IsFirstRefusal}
 
 -- ---- one field
 
--- a name stands before the first colon, and what stands behind it is no steps and an end
-pub record IsNoChain (piece : List ℕ) : Type 0 where
-  pub named : is_named piece ≡ true
-  pub none : (steps : List Written) (take : Take) → IsChainText (behind_colon piece) steps take → ⊥
+-- the text is no steps and an end
+abbrev pub IsNoChain : List ℕ → Type 0
+IsNoChain text = (steps : List Written) (take : Take) → IsChainText text steps take → ⊥
 
--- steps and an end stand behind the colon, and the first step that is refused is refused for this reason
-pub record IsRefusedStep (d : Dialect) (piece : List ℕ) (why : Reason) : Type 0 where
-  pub named : is_named piece ≡ true
+-- the text is steps and an end, and the first step that is refused is refused for this reason
+pub record IsRefusedChain (d : Dialect) (text : List ℕ) (why : Reason) : Type 0 where
   pub steps : List Written
   pub take : Take
-  pub written : IsChainText (behind_colon piece) steps take
+  pub written : IsChainText text steps take
   pub first : IsFirstRefusal d true steps why
 
--- steps and this end stand behind the colon, and the steps are kept as these: the first starts from the root node
-pub record IsAccepted (d : Dialect) (piece : List ℕ) (kept : List ChainStep) (take : Take) : Type 0 where
-  pub named : is_named piece ≡ true
+-- the text is steps and this end, and the steps are kept as these: the first starts from the root node
+pub record IsAccepted (d : Dialect) (text : List ℕ) (kept : List ChainStep) (take : Take) : Type 0 where
   pub steps : List Written
-  pub written : IsChainText (behind_colon piece) steps take
+  pub written : IsChainText text steps take
   pub keeps : AreKept d true steps kept
 
--- what a piece is a chain of, or why it is none
+-- what the text behind a field's name reads as
 abbrev pub IsChain : Dialect → List ℕ → Chain → Type 0
-IsChain d piece (chain.Steps kept take) = IsAccepted d piece kept take
-IsChain d piece (chain.Refused reason.Name) = is_named piece ≡ false
-IsChain d piece (chain.Refused reason.Chain) = IsNoChain piece
-IsChain d piece (chain.Refused why) = IsRefusedStep d piece why
+IsChain d text (chain.Steps kept take) = IsAccepted d text kept take
+IsChain d text (chain.Refused reason.Name) = ⊥
+IsChain d text (chain.Refused reason.Chain) = IsNoChain text
+IsChain d text (chain.Refused why) = IsRefusedChain d text why
+
+pub record IsUnnamedField (piece : List ℕ) (field : Field) : Type 0 where
+  pub unnamed : is_named piece ≡ false
+  pub is : field.chain ≡ chain.Refused reason.Name
+
+pub record IsNamedField (d : Dialect) (piece : List ℕ) (field : Field) : Type 0 where
+  pub named : is_named piece ≡ true
+  pub is : IsChain d (behind_colon piece) field.chain
 
 -- the field that a piece is
 pub record IsField (d : Dialect) (piece : List ℕ) (field : Field) : Type 0 where
   pub name : field.name ≡ name_of piece
-  pub chain : IsChain d piece field.chain
+  pub reads : IsUnnamedField piece field ⊎ IsNamedField d piece field
+
+-- The reasons that a field has before it is run. The others are of running it, and want of memory is no reason of a text.
+abbrev pub IsFieldReason : Reason → Type 0
+IsFieldReason reason.Name = Unit {0}
+IsFieldReason reason.Chain = Unit {0}
+IsFieldReason reason.Order = Unit {0}
+IsFieldReason reason.Selection = ⊥
+IsFieldReason reason.Output = ⊥
+IsFieldReason reason.Pattern = ⊥
+IsFieldReason (reason.Css f) = f ≢ selector.Memory
+IsFieldReason (reason.XPath f) = f ≢ xpath.Memory
 
 -- ---- the script
 

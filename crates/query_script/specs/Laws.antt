@@ -3,7 +3,9 @@ use Rattle.std.specs.Prelude.{◌≡◌, ◌⊎◌, ℕ, List}
 use Rattle.text_base.specs.declared.reasons.ScriptFault.{ScriptFault}
 use Rattle.css_meaning.specs.declared.selector.Dialect.{Dialect}
 use Rattle.query_script.specs.declared.script.Field.{Field}
-use Rattle.query_script.specs.Fields.{IsScript, IsScriptFault}
+use Rattle.query_script.specs.declared.script.Chain.TheVariants as chain
+use Rattle.query_script.specs.declared.script.Reason.{Reason}
+use Rattle.query_script.specs.Fields.{IsField, IsFieldReason, IsScript, IsScriptFault}
 
 -- in a dialect a text reads as one list of fields at most
 abbrev pub HasOneReading : Type 0
@@ -19,3 +21,7 @@ IsReadOrRefused = (d : Dialect) (text : List ℕ) (fields : List Field) (fault :
 -- each text reads as fields or is refused
 abbrev pub HasReading : Type 0
 HasReading = (d : Dialect) (text : List ℕ) → ((fields : List Field) × IsScript d text fields) ⊎ ((fault : ScriptFault) × IsScriptFault text fault)
+
+-- a field is refused for a reason of its text alone
+abbrev pub HasFieldReason : Type 0
+HasFieldReason = (d : Dialect) (piece : List ℕ) (field : Field) (why : Reason) → IsField d piece field → field.chain ≡ chain.Refused why → IsFieldReason why

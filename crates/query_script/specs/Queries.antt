@@ -15,7 +15,9 @@ use Rattle.query_script.specs.declared.script.ChainStep.{ChainStep}
 use Rattle.query_script.specs.declared.script.ChainStep.TheVariants as step
 use Rattle.query_script.specs.declared.script.Reason.{Reason}
 use Rattle.query_script.specs.declared.script.Reason.TheVariants as reason
-use Rattle.query_script.specs.Steps.{Kind, css, xpath, re, Written}
+use Rattle.query_script.specs.declared.steps.Kind.{Kind}
+use Rattle.query_script.specs.declared.steps.Kind.TheVariants as kind
+use Rattle.query_script.specs.Steps.{Written}
 
 -- ---- a step that is kept
 
@@ -42,12 +44,12 @@ pub record IsPatternStep (text : List ℕ) (kept : ChainStep) (nodes : Bool) : T
 -- A step of this kind and text is kept as such, where nodes come to it or not, and nodes come of it or not. A query takes
 -- nodes alone, a pattern the texts of anything.
 abbrev pub IsKept : Dialect → Bool → Kind → List ℕ → ChainStep → Bool → Type 0
-IsKept d true css text kept nodes = IsCssStep d text kept nodes
-IsKept d true xpath text kept nodes = IsXPathStep text kept nodes
-IsKept d true re text kept nodes = IsPatternStep text kept nodes
-IsKept d false css text kept nodes = ⊥
-IsKept d false xpath text kept nodes = ⊥
-IsKept d false re text kept nodes = IsPatternStep text kept nodes
+IsKept d true kind.Css text kept nodes = IsCssStep d text kept nodes
+IsKept d true kind.XPath text kept nodes = IsXPathStep text kept nodes
+IsKept d true kind.Re text kept nodes = IsPatternStep text kept nodes
+IsKept d false kind.Css text kept nodes = ⊥
+IsKept d false kind.XPath text kept nodes = ⊥
+IsKept d false kind.Re text kept nodes = IsPatternStep text kept nodes
 
 -- all steps are kept, in their order, where nodes come to the first or not
 abbrev pub AreKept : Dialect → Bool → List Written → List ChainStep → Type 0
@@ -80,12 +82,12 @@ IsXPathRefused text _ = ⊥
 -- Why a step of this kind and text is refused, where nodes come to it or not: a query on strings is out of order, else its
 -- text is looked at. A pattern is not refused here.
 abbrev pub IsRefused : Dialect → Bool → Kind → List ℕ → Reason → Type 0
-IsRefused d true css text why = IsCssRefused d text why
-IsRefused d true xpath text why = IsXPathRefused text why
-IsRefused d true re text why = ⊥
-IsRefused d false css text why = why ≡ reason.Order
-IsRefused d false xpath text why = why ≡ reason.Order
-IsRefused d false re text why = ⊥
+IsRefused d true kind.Css text why = IsCssRefused d text why
+IsRefused d true kind.XPath text why = IsXPathRefused text why
+IsRefused d true kind.Re text why = ⊥
+IsRefused d false kind.Css text why = why ≡ reason.Order
+IsRefused d false kind.XPath text why = why ≡ reason.Order
+IsRefused d false kind.Re text why = ⊥
 
 -- the first step from left to right that is refused is refused for this reason
 abbrev pub IsFirstRefusal : Dialect → Bool → List Written → Reason → Type 0

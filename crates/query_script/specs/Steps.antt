@@ -3,17 +3,14 @@ use Rattle.std.specs.Prelude.{◌≡◌, ℕ, ◌<◌, ◌==◌, Bool, true, Lis
 use Rattle.std.specs.List.{list_all}
 use Rattle.query_script.specs.declared.script.Take.{Take}
 use Rattle.query_script.specs.declared.script.Take.TheVariants as take
+use Rattle.query_script.specs.declared.steps.Kind.{Kind}
+use Rattle.query_script.specs.declared.steps.Kind.TheVariants as kind
 use Rattle.query_script.specs.Cuts.{is_quote, pieces, is_point, trimmed}
 
-pub data Kind : Type 0 where
-  css : Kind
-  xpath : Kind
-  re : Kind
-
 abbrev pub word_of : Kind → List ℕ
-word_of css = codes "css"
-word_of xpath = codes "xpath"
-word_of re = codes "re"
+word_of kind.Css = codes "css"
+word_of kind.XPath = codes "xpath"
+word_of kind.Re = codes "re"
 
 -- a step as it is written: its word, the quote that its string stands in, and the bytes that the string stands for
 pub record Written : Type 0 where

@@ -3,10 +3,18 @@ ghost use Rattle.std.specs.List.{AllByRecursion};
 ghost use Rattle.query_script.specs.Fields.{IsScript, IsUnread};
 ghost use Rattle.query_script.specs.Ordered.{IsOrdered};
 
+use crate::cuts::field_pieces;
+use crate::fields::fields;
 use crate::script::Script;
 use css_meaning::Dialect;
 use std::alloc::Global;
-use text_base::ScriptFault;
+use text_base::{ScriptFault, Seq};
+
+/// The most bytes of a script.
+const MOST_BYTES: usize = 65_536;
+
+/// The most fields of a script.
+const MOST_FIELDS: usize = 32;
 
 /// The fields of a script, in the order of the text, each with its steps or its reason.
 ///
@@ -19,5 +27,19 @@ pub fn parse_script(alloc: Global, dialect: Dialect, text: &str) -> Result<Scrip
     ensures ordered { IfOk result (λ script. AllByRecursion IsOrdered script.fields) }
     ensures fault { IfErr result (IsUnread text.now) }
 {
-    Err(ScriptFault::Memory)
+    if text.len() > MOST_BYTES {
+        return Err(ScriptFault::Long);
+    }
+    let Ok(pieces) = field_pieces(alloc, text) else {
+        return Err(ScriptFault::Memory);
+    };
+    if pieces.len() > MOST_FIELDS {
+        return Err(ScriptFault::Fields);
+    }
+    match fields(alloc, dialect, pieces.as_slice()) {
+        Ok(fields) => Ok(Script {
+            fields: Seq::from_vec(fields),
+        }),
+        Err(_) => Err(ScriptFault::Memory),
+    }
 }

@@ -1,0 +1,108 @@
+-- The reasons that a field of a script may have.
+use Rattle.std.proofs.Common.{◌≡◌, ◌≢◌, ℕ, Bool, true, false, List, [], ◌∷◌, sym, ◌∙◌, ap, subst, refl, inl, inr, ◌⊎◌, cond}
+use Rattle.std.specs.Prelude.{Option, Some, None, if◌then◌else◌}
+use Rattle.text_base.specs.declared.reasons.SelectorFault.{SelectorFault}
+use Rattle.text_base.specs.declared.reasons.SelectorFault.TheVariants as selector
+use Rattle.text_base.specs.declared.reasons.XPathFault.{XPathFault}
+use Rattle.text_base.specs.declared.reasons.XPathFault.TheVariants as xpath
+use Rattle.css_meaning.specs.declared.selector.Dialect.{Dialect}
+use Rattle.css_parser.specs.Selecting.{IsFault}
+use Rattle.xpath_parser.specs.declared.term.Term.{Term}
+use Rattle.xpath_parser.specs.declared.term.Term.TheVariants as t
+use Rattle.xpath_parser.specs.Shapes.{takes}
+use Rattle.xpath_parser.specs.Terms.{terms}
+use Rattle.xpath_parser.specs.Faults as faults
+use Rattle.xpath_parser.specs.Faults.{IsXPathFault, first_fault, or_later, argument_count}
+use Rattle.query_script.specs.declared.script.Chain.{Chain}
+use Rattle.query_script.specs.declared.script.Chain.TheVariants as chain
+use Rattle.query_script.specs.declared.script.Field.{Field}
+use Rattle.query_script.specs.declared.script.Reason.{Reason}
+use Rattle.query_script.specs.declared.script.Reason.TheVariants as reason
+use Rattle.query_script.specs.declared.steps.Kind.{Kind}
+use Rattle.query_script.specs.declared.steps.Kind.TheVariants as kind
+use Rattle.query_script.specs.Steps.{Written}
+use Rattle.query_script.specs.Queries.{IsCssFault, IsCssRefused, IsXPathRefused, IsRefused, IsFirstRefusal}
+use Rattle.query_script.specs.Names.{behind_colon}
+use Rattle.query_script.specs.Fields.{IsChain, IsField, IsUnnamedField, IsNamedField, IsFieldReason}
+
+-- no text is refused for want of memory
+no_term : (ts : List Term) → first_fault ts ≡ Some xpath.Memory → ⊥
+no_term [] h = cc
+no_term (t.Fraction ∷ ts) h = cc
+no_term (t.TooLarge ∷ ts) h = cc
+no_term (t.Div ∷ ts) h = cc
+no_term (t.Variable ∷ ts) h = cc
+no_term (t.Prefixed ∷ ts) h = cc
+no_term (t.UnknownFunction ∷ ts) h = cc
+no_term (t.Function g ∷ ts) h = by_count (takes g (argument_count ts)) (λ k. no_term ts k) h
+  where
+    by_count : (v : Bool) → (first_fault ts ≡ Some xpath.Memory → ⊥) → or_later (if v then None else Some xpath.Arguments) (first_fault ts) ≡ Some xpath.Memory → ⊥
+    by_count true go e = go e
+    by_count false go e = cc
+no_term (_ ∷ ts) h = no_term ts h
+
+not_for_memory : (text : List ℕ) (f : XPathFault) → IsXPathFault text f → f ≢ xpath.Memory
+not_for_memory text f (faults.too_long l) = λ e. cc
+not_for_memory text f (faults.unspelled l n) = λ e. cc
+not_for_memory text f (faults.too_deep l s n) = λ e. cc
+not_for_memory text f (faults.unread fit n) = λ e. cc
+not_for_memory text f (faults.at_token {ws = ws} fit r h) = λ e. no_term (terms ws) (h ∙ ap Some e)
+not_for_memory text f (faults.wrong_type fit r n w) = λ e. cc
+
+css_not_for_memory : (d : Dialect) (text : List ℕ) (f : SelectorFault) → IsCssFault d text f → f ≢ selector.Memory
+css_not_for_memory d text selector.Memory h = absurd h
+css_not_for_memory d text selector.Long h = λ e. cc
+css_not_for_memory d text selector.Text h = λ e. cc
+css_not_for_memory d text selector.Syntax h = λ e. cc
+css_not_for_memory d text selector.Prefix h = λ e. cc
+css_not_for_memory d text selector.UnknownPseudo h = λ e. cc
+css_not_for_memory d text selector.PseudoElement h = λ e. cc
+css_not_for_memory d text selector.OfType h = λ e. cc
+css_not_for_memory d text selector.Number h = λ e. cc
+css_not_for_memory d text selector.XPathLong h = λ e. cc
+
+of_css : (d : Dialect) (text : List ℕ) (why : Reason) → IsCssRefused d text why → IsFieldReason why
+of_css d text (reason.Css f) h = css_not_for_memory d text f h
+of_css d text _ h = absurd h
+
+of_xpath : (text : List ℕ) (why : Reason) → IsXPathRefused text why → IsFieldReason why
+of_xpath text (reason.XPath f) h = not_for_memory text f h
+of_xpath text _ h = absurd h
+
+of_order : (why : Reason) → why ≡ reason.Order → IsFieldReason why
+of_order why e = let P : Reason → Type 0 = λ r. IsFieldReason r in subst P (sym e) tt
+
+of_step : (d : Dialect) (nodes : Bool) (k : Kind) (text : List ℕ) (why : Reason) → IsRefused d nodes k text why → IsFieldReason why
+of_step d true kind.Css text why h = of_css d text why h
+of_step d true kind.XPath text why h = of_xpath text why h
+of_step d true kind.Re text why h = absurd h
+of_step d false kind.Css text why h = of_order why h
+of_step d false kind.XPath text why h = of_order why h
+of_step d false kind.Re text why h = absurd h
+
+of_first : (d : Dialect) (nodes : Bool) (steps : List Written) (why : Reason) → IsFirstRefusal d nodes steps why → IsFieldReason why
+of_first d nodes [] why h = absurd h
+of_first d nodes (w ∷ steps) why h = elim h [
+  | inl here ↦ of_step d nodes w.kind w.value why here
+  | inr later ↦ of_first d later.1.0 steps why later.1.1.1
+]
+
+of_chain : (d : Dialect) (text : List ℕ) (why : Reason) → IsChain d text (chain.Refused why) → IsFieldReason why
+of_chain d text reason.Name h = absurd h
+of_chain d text reason.Chain h = tt
+of_chain d text reason.Order h = tt
+of_chain d text reason.Selection h = of_first d true h.steps reason.Selection h.first
+of_chain d text reason.Output h = of_first d true h.steps reason.Output h.first
+of_chain d text reason.Pattern h = of_first d true h.steps reason.Pattern h.first
+of_chain d text (reason.Css f) h = of_first d true h.steps (reason.Css f) h.first
+of_chain d text (reason.XPath f) h = of_first d true h.steps (reason.XPath f) h.first
+
+pub of_field : (d : Dialect) (piece : List ℕ) (field : Field) (why : Reason) → IsField d piece field → field.chain ≡ chain.Refused why → IsFieldReason why
+of_field d piece field why h e = by_name h.reads
+  where
+    name_alone : (r : Reason) → chain.Refused r ≡ chain.Refused reason.Name → IsFieldReason r
+    name_alone r g = let same : reason.Name ≡ r = cc in let P : Reason → Type 0 = λ x. IsFieldReason x in subst P same tt
+
+    by_name : IsUnnamedField piece field ⊎ IsNamedField d piece field → IsFieldReason why
+    by_name (inl none) = name_alone why (sym e ∙ none.is)
+    by_name (inr some) = let P : Chain → Type 0 = λ c. IsChain d (behind_colon piece) c in of_chain d (behind_colon piece) why (subst P e some.is)
