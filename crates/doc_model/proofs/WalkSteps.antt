@@ -76,7 +76,7 @@ up_start doc a x t own d u h e =
     ∙ ap (λ b. cond b (x ∷ []) []) (ap (λ b. b && passes doc a t x) (upward_self doc a x m u) ∙ sym e)
 
 -- no row between a row above x and its parent is above x
-none_above : (doc : Document) (x y z : ℕ) → Small doc → IsOver doc y x → (row doc y).parent < z → z < y → below doc z x ≡ false
+pub none_above : (doc : Document) (x y z : ℕ) → Small doc → IsOver doc y x → (row doc y).parent < z → z < y → below doc z x ≡ false
 none_above doc x y z m over l k = false_from_ne_true _ (λ b. against (below_cases doc z y m (up over b)))
   where
     up : IsOver doc y x → below doc z x ≡ true → below doc z y ≡ true
@@ -87,7 +87,7 @@ none_above doc x y z m over l k = false_from_ne_true _ (λ b. against (below_cas
     against (inl e) = omega arith
     against (inr b) = let less : z < (row doc y).parent = below_less doc z (row doc y).parent m b in omega arith
 
-over_within : (doc : Document) (y x : ℕ) → Small doc → IsOver doc y x → y ≤ x
+pub over_within : (doc : Document) (y x : ℕ) → Small doc → IsOver doc y x → y ≤ x
 over_within doc y x m (inl e) = omega arith
 over_within doc y x m (inr b) = let l : y < x = below_less doc y x m b in omega arith
 

@@ -3,6 +3,7 @@ ghost use Rattle.std.specs.Prelude.{◌≡◌, ◌<◌, length, IfOk};
 ghost use Rattle.xpath_functions.specs.Rows.{AreWithin};
 ghost use Rattle.xpath_parser.specs.Functions as functions;
 
+use crate::{booleans, nodes, numbers, strings};
 use doc_model::Tree;
 use std::alloc::Global;
 use text_base::{NoMemory, Seq};
@@ -24,5 +25,34 @@ pub fn call<T: Tree>(
     requires rows { AreWithin (T.document tree.now) args.now }
     ensures { IfOk result (λ v. v ≡ functions.called (T.document tree.now) func args.now (record { row = node; position = position; size = size })) }
 {
-    Err(NoMemory)
+    let value = match func {
+        Func::Last => Value::Num(nodes::last(size)),
+        Func::Position => Value::Num(nodes::position(position)),
+        Func::Count => Value::Num(nodes::count(args)),
+        Func::Id => Value::Nodes(nodes::id(alloc, tree, args)?),
+        Func::LocalName => Value::Str(nodes::local_name(alloc, tree, args, node)?),
+        Func::NamespaceUri => Value::Str(nodes::namespace_uri(alloc)?),
+        Func::Name => Value::Str(nodes::name(alloc, tree, args, node)?),
+        Func::Str => Value::Str(strings::string(alloc, tree, args, node)?),
+        Func::Concat => Value::Str(strings::concat(alloc, tree, args)?),
+        Func::StartsWith => Value::Bool(strings::starts_with(alloc, tree, args)?),
+        Func::Contains => Value::Bool(strings::contains(alloc, tree, args)?),
+        Func::SubstringBefore => Value::Str(strings::substring_before(alloc, tree, args)?),
+        Func::SubstringAfter => Value::Str(strings::substring_after(alloc, tree, args)?),
+        Func::Substring => Value::Str(strings::substring(alloc, tree, args)?),
+        Func::StringLength => Value::Num(strings::string_length(alloc, tree, args, node)?),
+        Func::NormalizeSpace => Value::Str(strings::normalize_space(alloc, tree, args, node)?),
+        Func::Translate => Value::Str(strings::translate(alloc, tree, args)?),
+        Func::Boolean => Value::Bool(booleans::boolean(args)),
+        Func::Not => Value::Bool(booleans::not(args)),
+        Func::True => Value::Bool(true),
+        Func::False => Value::Bool(false),
+        Func::Lang => Value::Bool(booleans::lang(alloc, tree, args, node)?),
+        Func::Number => Value::Num(numbers::number(alloc, tree, args, node)?),
+        Func::Sum => Value::Num(numbers::sum(alloc, tree, args)?),
+        Func::Floor => Value::Num(numbers::floor(alloc, tree, args)?),
+        Func::Ceiling => Value::Num(numbers::ceiling(alloc, tree, args)?),
+        Func::Round => Value::Num(numbers::round(alloc, tree, args)?),
+    };
+    Ok(value)
 }

@@ -1,19 +1,22 @@
 //! Conversions of values, XPath 1.0, sections 4.2 to 4.4.
 ghost use Rattle.std.specs.Prelude.{◌≡◌, IfOk};
+ghost use Rattle.std.specs.Str.{chars};
+ghost use Rattle.xpath_values.specs.Strings as strings;
 ghost use Rattle.xpath_functions.specs.Rows.{IsWithin};
 ghost use Rattle.xpath_parser.specs.Conversions as spec;
 
+use crate::texts::value_text;
 use doc_model::Tree;
 use std::alloc::Global;
 use text_base::{NoMemory, Txt};
-use xpath_values::{Value, XNum};
+use xpath_values::{Value, XNum, to_number};
 
 /// The string of a value: of a node-set the string value of its first row, or the empty text.
 pub fn text_of<T: Tree>(alloc: Global, tree: &T, value: &Value) -> Result<Txt, NoMemory>
     requires { IsWithin (T.document tree.now) value.now }
     ensures { IfOk result (λ t. t ≡ spec.text_of (T.document tree.now) value.now) }
 {
-    Err(NoMemory)
+    value_text(alloc, tree, value)?.into_txt(alloc)
 }
 
 /// The number of a value: of a node-set that of its string.
@@ -21,7 +24,20 @@ pub fn number_of<T: Tree>(alloc: Global, tree: &T, value: &Value) -> Result<XNum
     requires { IsWithin (T.document tree.now) value.now }
     ensures { IfOk result (λ n. n ≡ spec.number_of (T.document tree.now) value.now) }
 {
-    Err(NoMemory)
+    match value {
+        Value::Bool(true) => Ok(XNum::Whole(1)),
+        Value::Bool(false) => Ok(XNum::Whole(0)),
+        Value::Num(number) => Ok(*number),
+        Value::Str(text) => Ok(to_number(text.as_str())),
+        Value::Nodes(_) => Ok(to_number(value_text(alloc, tree, value)?.as_str())),
+    }
+}
+
+#[tactic(auto, using(xpath_values::proofs::Texts::empty_chars))]
+pub fn is_empty(text: &str) -> bool
+    ensures { result ≡ strings.is_empty (chars text.now) }
+{
+    text.is_empty()
 }
 
 /// The truth of a value: that a node-set or a string is not empty, and a number neither 0 nor NaN.
@@ -32,7 +48,7 @@ pub fn truth_of(value: &Value) -> bool
         Value::Bool(truth) => *truth,
         Value::Num(XNum::Whole(number)) => *number != 0,
         Value::Num(XNum::NaN) => false,
-        Value::Str(text) => !text.as_str().is_empty(),
-        Value::Nodes(rows) => !rows.as_slice().is_empty(),
+        Value::Str(text) => !is_empty(text.as_str()),
+        Value::Nodes(rows) => rows.as_slice().len() != 0,
     }
 }

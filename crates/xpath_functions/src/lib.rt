@@ -1,9 +1,22 @@
 //! The functions of XPath 1.0, section 4, with the conversions and comparisons of its values, in a document.
 #![tactic(auto)]
 
+mod attributes;
+mod booleans;
+mod building;
 mod calls;
 mod comparisons;
 mod conversions;
+mod ids;
+mod languages;
+mod nodes;
+mod numbers;
+mod parts;
+mod sets;
+mod strings;
+#[cfg(test)]
+mod tests;
+mod texts;
 
 pub use calls::call;
 pub use comparisons::fits;

@@ -1,3 +1,3 @@
 mod Scanned
-mod Texts
+pub mod Texts
 mod Worked

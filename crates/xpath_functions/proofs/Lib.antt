@@ -1,0 +1,14 @@
+mod FirstIds
+mod Lists
+mod Named
+mod Nearest
+mod Orders
+mod Pairs
+mod Places
+mod Positions
+mod Pushes
+mod Spaces
+mod TextSets
+mod Translations
+mod Truths
+mod Words

@@ -1,0 +1,11 @@
+use Rattle.std.proofs.Common.{◌≡◌, ◌∙◌, None}
+use Rattle.std.specs.Str.{chars}
+use Rattle.std.proofs.lemmas.Int.{to_z-of_z}
+use Rattle.text_base.specs.Positions.{at_positions, is_wanted}
+use Rattle.xpath_functions.proofs.Positions.{from_position}
+use Rattle.xpath_functions.proofs.parts.places_from.Goals as goal
+
+pub returns : goal.returns
+returns c =
+    let given : chars c.char_sub.result.now ≡ at_positions (is_wanted c.args.from None) 1 (chars c.args.text.now) = simp (to_z-of_z, c.ranges.from) at c.char_sub.ensures in
+    given ∙ from_position (chars c.args.text.now) c.args.from
