@@ -1,2 +1,4 @@
+pub mod Contexts
 pub mod Places
 pub mod Rows
+pub mod Steps

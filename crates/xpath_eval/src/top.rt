@@ -5,6 +5,8 @@ ghost use Rattle.xpath_parser.specs.Denote.{denote};
 ghost use Rattle.xpath_parser.specs.Typed.{expression};
 ghost use Rattle.xpath_eval.specs.Rows.{AreRows};
 
+use crate::evaluation::value_at;
+use crate::place::Place;
 use doc_model::Axes;
 use std::alloc::Global;
 use text_base::NoMemory;
@@ -13,15 +15,19 @@ use xpath_values::Value;
 
 /// The value of the expression at a row, which is the context row, at position 1 of a context of size 1. The rows of a
 /// node-set are in document order, each once.
-pub fn eval<S: Axes>(
-    alloc: Global,
-    source: &S,
-    e: &Typed,
-    node: u32,
-) -> Result<Value, NoMemory>
+pub fn eval<S: Axes>(alloc: Global, source: &S, e: &Typed, node: u32) -> Result<Value, NoMemory>
     requires { node < length (S.document source.now) }
     ensures value { IfOk result (λ v. v ≡ denote (S.document source.now) (expression e.now) (record { row = node; position = 1; size = 1 })) }
     ensures rows { IfOk result (λ v. AreRows (S.document source.now) (rows_of v)) }
 {
-    Err(NoMemory)
+    value_at(
+        alloc,
+        source,
+        e.expr(),
+        Place {
+            row: node,
+            position: 1,
+            size: 1,
+        },
+    )
 }

@@ -1,0 +1,293 @@
+use Rattle.std.proofs.Common.{rules, arith, ◌≡◌, refl, sym, ◌∙◌, ap, subst, ℕ, ◌+◌, ◌<◌, ◌≤◌, ◌||◌, List, [], ◌∷◌, ◌++◌, length, take, drop, map, get_or, append_assoc}
+use Rattle.std.specs.Prelude.{IfOk}
+use Rattle.std.specs.List.{list_any, list_all}
+use Rattle.std.proofs.lemmas.List.{take_more}
+use Rattle.std.proofs.lemmas.List.Elements.{All-append, All-cons, All-nil}
+use Rattle.doc_model.specs.RowLists.{has, Run}
+use Rattle.doc_model.specs.Axes.{axis_list}
+use Rattle.xpath_values.specs.declared.value.Value.{Value}
+use Rattle.xpath_values.specs.declared.value.Value.TheVariants.{Nodes, Num, Str, Bool as Truth}
+use Rattle.xpath_parser.specs.declared.expression.Expr.{Expr}
+use Rattle.xpath_parser.specs.declared.expression.Operand.{Operand}
+use Rattle.xpath_parser.specs.declared.expression.Step.{Step, out-Step}
+use Rattle.xpath_parser.specs.Conversions as conversions
+use Rattle.xpath_parser.specs.Conversions.{rows_of}
+use Rattle.xpath_parser.specs.Functions.{Context, called}
+use Rattle.xpath_parser.specs.Denote as spec
+use Rattle.xpath_parser.proofs.Equations as eqs
+use Rattle.xpath_functions.specs.Rows.{AreWithin, IsWithin}
+use Rattle.xpath_eval.specs.Places.{context}
+use Rattle.xpath_eval.specs.Rows.{AreRows, AllBelow}
+use Rattle.xpath_values.specs.Numbers.{whole}
+use Rattle.xpath_eval.specs.Steps.{IsLoneStep}
+use Rattle.xpath_eval.proofs.Counting as counting
+use Rattle.xpath_eval.proofs.Covering as covering
+use Rattle.xpath_eval.proofs.Gathers as gathers
+use Rattle.xpath_eval.proofs.Kept as kept
+use Rattle.xpath_eval.proofs.Lists as lists
+use Rattle.xpath_eval.proofs.evaluation.+evaluation.Goals as goal
+
+-- ---- loops
+
+pub from_each-loop-x-preserved : goal.from_each-loop-x-preserved
+from_each-loop-x-preserved g t c =
+    let doc = g.S.Tree.document c.args.source.now in
+    let w = spec.walk_of doc c.args.step.now in
+    let xs = c.args.rows.now in
+    let i = c.loop-x.x-index in
+    let x = get_or xs i 0 in
+    subst (λ v. gathers.Gathered (length doc) v w c.in_ok-found.found.items) (sym (take_more xs i 0 c.loop-x-test.true))
+    (gathers.gathered_more (length doc) (take i xs) x w c.loop-x.found.items c.in_ok-found.found.items c.loop-x.invariant (kept.walk_below doc c.args.step.now x)
+    (λ y. c.in_ok-found.ensures y ∙ ap (λ v. has y c.loop-x.found.items || has y v) c.in_ok-walked.ensures))
+
+pub from_each-returns : goal.from_each-returns
+from_each-returns g t c =
+    let doc = g.S.Tree.document c.args.source.now in
+    c.from_vec.ensures ∙ gathers.gathered_whole doc c.args.rows.now c.loop-x.x-index (spec.walk_of doc c.args.step.now) c.loop-x.found.items c.ordered.result.items
+    c.loop-x.invariant c.loop-x-test.false c.ordered.ensures.same c.ordered.ensures.order
+
+pub union-loop-e-preserved : goal.union-loop-e-preserved
+union-loop-e-preserved g t c =
+    let doc = g.S.Tree.document c.args.source.now in
+    let w : Expr → List ℕ = λ x. rows_of (spec.denote doc x (context c.args.place)) in
+    let es = c.args.es.now in
+    let i = c.loop-e.e-index in
+    let x = c.e-item.result in
+    let more : c.as_slice.result.now ≡ w x = c.as_slice.ensures ∙ c.nodes-rows.ensures ∙ ap rows_of c.in_ok-value.ensures.value in
+    let run : Run 0 (length doc) (w x) = subst (λ v. Run 0 (length doc) (rows_of v)) c.in_ok-value.ensures.value c.in_ok-value.ensures.rows in
+    subst (λ v. gathers.Gathered (length doc) v w c.in_ok-found.found.items) (sym (lists.take_at es i x c.e-item.is c.loop-e-test.true))
+    (gathers.gathered_more (length doc) (take i es) x w c.loop-e.found.items c.in_ok-found.found.items c.loop-e.invariant (lists.run_below 0 (length doc) (w x) run)
+    (λ y. c.in_ok-found.ensures y ∙ ap (λ v. has y c.loop-e.found.items || has y v) more))
+
+pub union-returns : goal.union-returns
+union-returns g t c =
+    let doc = g.S.Tree.document c.args.source.now in
+    let w : Expr → List ℕ = λ x. rows_of (spec.denote doc x (context c.args.place)) in
+    c.from_vec.ensures ∙ gathers.gathered_whole doc c.args.es.now c.loop-e.e-index w c.loop-e.found.items c.ordered-rows.result.items
+    c.loop-e.invariant c.loop-e-test.false c.ordered-rows.ensures.same c.ordered-rows.ensures.order
+
+pub filtered-loop-predicate-preserved : goal.filtered-loop-predicate-preserved
+filtered-loop-predicate-preserved g t c =
+    let doc = g.S.Tree.document c.args.source.now in
+    let ps = c.args.predicates.now in
+    let i = c.loop-predicate.predicate-index in
+    let p = c.predicate-item.result in
+    let old = c.loop-predicate.rows.items in
+    let is : c.kept.new.rows.items ≡ spec.kept_from (spec.denote doc p) (length old) 1 old = c.in_ok-kept.ensures in
+    let fewer = kept.kept_from_few (spec.denote doc p) (length old) 1 old in
+    let few = c.loop-predicate.invariant.few in
+    record {
+      kept = ap (spec.kept (map (spec.denote doc) (drop (i + 1) ps))) is
+          ∙ ap (λ v. spec.kept (map (spec.denote doc) v) old) (sym (lists.drop_at ps i p c.predicate-item.is c.loop-predicate-test.true)) ∙ c.loop-predicate.invariant.kept;
+      below = subst (AllBelow (length doc)) (sym is) (kept.kept_from_all (λ y. y < length doc) (spec.denote doc p) (length old) 1 old c.loop-predicate.invariant.below);
+      few = subst (λ v. length v ≤ length doc) (sym is) (omega (arith, few, fewer));
+    }
+
+pub path-loop-step-preserved : goal.path-loop-step-preserved
+path-loop-step-preserved g t c =
+    let doc = g.S.Tree.document c.args.source.now in
+    let ss = c.args.steps.now in
+    let i = c.loop-step.step-index in
+    let s = c.step-item.result in
+    let is : c.in_ok-rows.rows ≡ spec.rows_in doc c.loop-step.rows (spec.walk_of doc s) = c.in_ok-rows.ensures ∙ ap (λ v. spec.rows_in doc v (spec.walk_of doc s)) c.as_slice.ensures in
+    let run : AreRows doc c.in_ok-rows.rows = subst (AreRows doc) (sym is) (gathers.rows_in_run doc c.loop-step.rows (spec.walk_of doc s)) in
+    record {
+      path = ap (λ v. spec.path doc v (map (spec.walk_of doc) (drop (i + 1) ss))) is
+          ∙ ap (λ v. spec.path doc c.loop-step.rows (map (spec.walk_of doc) v)) (sym (lists.drop_at ss i s c.step-item.is c.loop-step-test.true)) ∙ c.loop-step.invariant.path;
+      rows = run;
+      below = lists.run_below 0 (length doc) c.in_ok-rows.rows run;
+    }
+
+pub path-loop-step-init : goal.path-loop-step-init
+path-loop-step-init g t c = let doc = g.S.Tree.document c.args.source.now in record { path = refl; rows = c.requires; below = lists.run_below 0 (length doc) c.args.start c.requires }
+
+pub values-loop-e-preserved : goal.values-loop-e-preserved
+values-loop-e-preserved g t c =
+    let doc = g.S.Tree.document c.args.source.now in
+    let value : Expr → Value = λ e. spec.denote doc e (context c.args.place) in
+    let es = c.args.es.now in
+    let i = c.loop-e.e-index in
+    let e = c.e-item.result in
+    let found = c.loop-e.found in
+    let v = c.in_ok-value_at.field-0 in
+    record {
+      values = ap (λ vs. vs ++ map value (drop (i + 1) es)) c.in_ok-push.ensures.ok ∙ append_assoc found (v ∷ []) (map value (drop (i + 1) es))
+          ∙ ap (λ u. found ++ u ∷ map value (drop (i + 1) es)) c.in_ok-value_at.ensures.value
+          ∙ ap (λ us. found ++ map value us) (sym (lists.drop_at es i e c.e-item.is c.loop-e-test.true)) ∙ c.loop-e.invariant.values;
+      within = subst (AreWithin doc) (sym c.in_ok-push.ensures.ok) (All-append (IsWithin doc) found (v ∷ []) c.loop-e.invariant.within
+          (All-cons (IsWithin doc) v [] (lists.run_below 0 (length doc) (rows_of v) c.in_ok-value_at.ensures.rows) (All-nil (IsWithin doc))));
+    }
+
+pub joined-applied-requires-clause-left : goal.joined-applied-requires-clause-left
+joined-applied-requires-clause-left g t c = lists.run_below 0 (length (g.S.Tree.document c.args.source.now)) (rows_of c.loop-operand.value) c.loop-operand.invariant.rows
+
+pub joined-applied-requires-clause-right : goal.joined-applied-requires-clause-right
+joined-applied-requires-clause-right g t c = lists.run_below 0 (length (g.S.Tree.document c.args.source.now)) (rows_of c.in_ok-right.right) c.in_ok-right.ensures.rows
+
+-- ---- what calls require
+
+pub walk-returns : goal.walk-returns
+walk-returns g t c =
+    let doc = g.S.Tree.document c.args.source.now in
+    let s = c.args.step.now in
+    c.in_ok-filtered.ensures ∙ ap (λ ps. spec.kept (map (spec.denote doc) ps) c.in_ok-rows.rows.items) c.as_slice.ensures
+    ∙ ap (spec.kept (map (spec.denote doc) (out-Step s).predicates)) c.in_ok-rows.ensures.rows ∙ sym (eqs.at_step doc s c.args.x)
+
+pub value_at-number_of-requires : goal.value_at-number_of-requires
+value_at-number_of-requires g t c = lists.run_below 0 (length (g.S.Tree.document c.args.source.now)) (rows_of c.in_ok-value-in-Minus.value) c.in_ok-value-in-Minus.ensures.rows
+
+-- ---- where a path starts
+
+pub started-returns-in_ok-from_slice-in-Here-clause-rows : goal.started-returns-in_ok-from_slice-in-Here-clause-rows
+started-returns-in_ok-from_slice-in-Here-clause-rows g t c =
+    let doc = g.S.Tree.document c.args.source.now in
+    let at = context c.args.place in
+    c.in_ok-from_slice-in-Here.ensures ∙ sym (eqs.at_here doc at) ∙ sym (ap (λ s. spec.start_of doc s at) c.in-Here.is)
+
+pub started-returns-in_ok-from_slice-in-Root-clause-rows : goal.started-returns-in_ok-from_slice-in-Root-clause-rows
+started-returns-in_ok-from_slice-in-Root-clause-rows g t c =
+    let doc = g.S.Tree.document c.args.source.now in
+    let at = context c.args.place in
+    c.in_ok-from_slice-in-Root.ensures ∙ sym (eqs.at_root doc at) ∙ sym (ap (λ s. spec.start_of doc s at) c.in-Root.is)
+
+pub started-returns-in_ok-value-in-From-clause-rows : goal.started-returns-in_ok-value-in-From-clause-rows
+started-returns-in_ok-value-in-From-clause-rows g t c =
+    let doc = g.S.Tree.document c.args.source.now in
+    let at = context c.args.place in
+    c.nodes.ensures ∙ ap rows_of (c.in_ok-value-in-From.ensures.value ∙ ap (λ x. spec.denote doc x at) c.get.ensures)
+    ∙ sym (eqs.at_from doc c.in-From.e at) ∙ sym (ap (λ s. spec.start_of doc s at) c.in-From.is)
+
+-- ---- each form
+
+pub value_at-returns-in_ok-any-in-Or-clause-value : goal.value_at-returns-in_ok-any-in-Or-clause-value
+value_at-returns-in_ok-any-in-Or-clause-value g t c =
+    let doc = g.S.Tree.document c.args.source.now in
+    let at = context c.args.place in
+    ap Truth (c.in_ok-any-in-Or.ensures ∙ ap (list_any (λ x. conversions.truth_of (spec.denote doc x at))) c.as_slice.ensures)
+    ∙ sym (eqs.at_or doc c.in-Or.es at) ∙ sym (ap (λ x. spec.denote doc x at) c.in-Or.is)
+
+pub value_at-returns-in_ok-all-in-And-clause-value : goal.value_at-returns-in_ok-all-in-And-clause-value
+value_at-returns-in_ok-all-in-And-clause-value g t c =
+    let doc = g.S.Tree.document c.args.source.now in
+    let at = context c.args.place in
+    ap Truth (c.in_ok-all-in-And.ensures ∙ ap (list_all (λ x. conversions.truth_of (spec.denote doc x at))) c.as_slice-in-And.ensures)
+    ∙ sym (eqs.at_and doc c.in-And.es at) ∙ sym (ap (λ x. spec.denote doc x at) c.in-And.is)
+
+pub value_at-returns-in_ok-value-in-Joined-clause-value : goal.value_at-returns-in_ok-value-in-Joined-clause-value
+value_at-returns-in_ok-value-in-Joined-clause-value g t c =
+    let doc = g.S.Tree.document c.args.source.now in
+    let at = context c.args.place in
+    subst (λ w. IfOk c.joined.result (λ v. v ≡ w))
+    (ap (λ ops. spec.joined doc c.in_ok-value-in-Joined.value (map (λ o. spec.arm_at doc o at) ops)) c.as_slice-in-Joined.ensures
+    ∙ ap (λ v. spec.joined doc v (map (λ o. spec.arm_at doc o at) c.in-Joined.operands)) (c.in_ok-value-in-Joined.ensures.value ∙ ap (λ x. spec.denote doc x at) c.get.ensures)
+    ∙ sym (eqs.at_joined doc c.in-Joined.first c.in-Joined.operands at) ∙ sym (ap (λ x. spec.denote doc x at) c.in-Joined.is))
+    c.joined.ensures.value
+
+pub value_at-returns-in_ok-number_of-in-Minus-clause-value : goal.value_at-returns-in_ok-number_of-in-Minus-clause-value
+value_at-returns-in_ok-number_of-in-Minus-clause-value g t c =
+    let doc = g.S.Tree.document c.args.source.now in
+    let at = context c.args.place in
+    ap Num (c.signed.ensures ∙ ap (spec.signed c.in-Minus.signs)
+    (c.in_ok-number_of-in-Minus.ensures ∙ ap (conversions.number_of doc) (c.in_ok-value-in-Minus.ensures.value ∙ ap (λ x. spec.denote doc x at) c.get-in-Minus.ensures)))
+    ∙ sym (eqs.at_minus doc c.in-Minus.signs c.in-Minus.operand at) ∙ sym (ap (λ x. spec.denote doc x at) c.in-Minus.is)
+
+pub value_at-returns-in_ok-union-in-Union-clause-value : goal.value_at-returns-in_ok-union-in-Union-clause-value
+value_at-returns-in_ok-union-in-Union-clause-value g t c =
+    let doc = g.S.Tree.document c.args.source.now in
+    let at = context c.args.place in
+    let w : Expr → List ℕ = λ x. rows_of (spec.denote doc x at) in
+    ap Nodes (c.in_ok-union-in-Union.ensures ∙ ap (λ es. spec.rows_in doc es w) c.as_slice-in-Union.ensures)
+    ∙ sym (eqs.at_union doc c.in-Union.es at) ∙ sym (ap (λ x. spec.denote doc x at) c.in-Union.is)
+
+pub value_at-returns-in_ok-union-in-Union-clause-rows : goal.value_at-returns-in_ok-union-in-Union-clause-rows
+value_at-returns-in_ok-union-in-Union-clause-rows g t c =
+    let doc = g.S.Tree.document c.args.source.now in
+    let at = context c.args.place in
+    let w : Expr → List ℕ = λ x. rows_of (spec.denote doc x at) in
+    subst (AreRows doc) (sym c.in_ok-union-in-Union.ensures) (gathers.rows_in_run doc c.as_slice-in-Union.result.now w)
+
+pub value_at-returns-in_ok-path-in-Path-clause-value : goal.value_at-returns-in_ok-path-in-Path-clause-value
+value_at-returns-in_ok-path-in-Path-clause-value g t c =
+    let doc = g.S.Tree.document c.args.source.now in
+    let at = context c.args.place in
+    ap Nodes (c.in_ok-path-in-Path.ensures ∙ ap (λ r. spec.path doc r (map (spec.walk_of doc) c.as_slice-in-Path.result.now)) c.in_ok-rows-in-Path.ensures.rows
+    ∙ ap (λ ss. spec.path doc (spec.start_of doc c.in-Path.start at) (map (spec.walk_of doc) ss)) c.as_slice-in-Path.ensures)
+    ∙ sym (eqs.at_path doc c.in-Path.start c.in-Path.steps at) ∙ sym (ap (λ x. spec.denote doc x at) c.in-Path.is)
+
+pub value_at-returns-in_ok-path-in-Path-clause-rows : goal.value_at-returns-in_ok-path-in-Path-clause-rows
+value_at-returns-in_ok-path-in-Path-clause-rows g t c =
+    let doc = g.S.Tree.document c.args.source.now in
+    let at = context c.args.place in
+    subst (AreRows doc) (sym c.in_ok-path-in-Path.ensures)
+    (gathers.path_run doc c.in_ok-rows-in-Path.rows (map (spec.walk_of doc) c.as_slice-in-Path.result.now) c.in_ok-rows-in-Path.ensures.order)
+
+pub value_at-returns-in_ok-filter-in-Filter-clause-value : goal.value_at-returns-in_ok-filter-in-Filter-clause-value
+value_at-returns-in_ok-filter-in-Filter-clause-value g t c =
+    let doc = g.S.Tree.document c.args.source.now in
+    let at = context c.args.place in
+    ap Nodes (c.in_ok-filter-in-Filter.ensures ∙ ap (λ ps. spec.kept (map (spec.denote doc) ps) (rows_of c.in_ok-value-in-Filter.value)) c.as_slice-in-Filter.ensures
+    ∙ ap (λ v. spec.kept (map (spec.denote doc) c.in-Filter.predicates) (rows_of v)) (c.in_ok-value-in-Filter.ensures.value ∙ ap (λ x. spec.denote doc x at) c.get-in-Filter.ensures))
+    ∙ sym (eqs.at_filter doc c.in-Filter.filtered c.in-Filter.predicates at) ∙ sym (ap (λ x. spec.denote doc x at) c.in-Filter.is)
+
+pub value_at-returns-in_ok-filter-in-Filter-clause-rows : goal.value_at-returns-in_ok-filter-in-Filter-clause-rows
+value_at-returns-in_ok-filter-in-Filter-clause-rows g t c =
+    let doc = g.S.Tree.document c.args.source.now in
+    let at = context c.args.place in
+    subst (AreRows doc) (sym c.in_ok-filter-in-Filter.ensures)
+    (kept.kept_run (map (spec.denote doc) c.as_slice-in-Filter.result.now) 0 (length doc) (rows_of c.in_ok-value-in-Filter.value) c.in_ok-value-in-Filter.ensures.rows)
+
+pub value_at-returns-in_ok-of-in-Literal-clause-value : goal.value_at-returns-in_ok-of-in-Literal-clause-value
+value_at-returns-in_ok-of-in-Literal-clause-value g t c =
+    let doc = g.S.Tree.document c.args.source.now in
+    let at = context c.args.place in
+    ap Str (c.in_ok-of-in-Literal.ensures ∙ c.as_str.ensures.chars) ∙ sym (eqs.at_literal doc c.in-Literal.text at) ∙ sym (ap (λ x. spec.denote doc x at) c.in-Literal.is)
+
+pub value_at-returns-in-Number-clause-value : goal.value_at-returns-in-Number-clause-value
+value_at-returns-in-Number-clause-value g t c =
+    let doc = g.S.Tree.document c.args.source.now in
+    let at = context c.args.place in
+    ap Num c.literal_number.ensures ∙ sym (eqs.at_number doc c.in-Number.n at) ∙ sym (ap (λ x. spec.denote doc x at) c.in-Number.is)
+
+pub value_at-returns-in_ok-args-in-Call-clause-value : goal.value_at-returns-in_ok-args-in-Call-clause-value
+value_at-returns-in_ok-args-in-Call-clause-value g t c =
+    let doc = g.S.Tree.document c.args.source.now in
+    let at = context c.args.place in
+    subst (λ w. IfOk c.call.result (λ v. v ≡ w))
+    (ap (λ vs. called doc c.in-Call.func vs at) (c.in_ok-args-in-Call.ensures.values ∙ ap (map (λ x. spec.denote doc x at)) c.as_slice-in-Call.ensures)
+    ∙ sym (eqs.at_call doc c.in-Call.func c.in-Call.es at) ∙ sym (ap (λ x. spec.denote doc x at) c.in-Call.is))
+    c.call.ensures
+
+pub value_at-returns-in_ok-args-in-Call-clause-rows : goal.value_at-returns-in_ok-args-in-Call-clause-rows
+value_at-returns-in_ok-args-in-Call-clause-rows g t c =
+    let doc = g.S.Tree.document c.args.source.now in
+    let at = context c.args.place in
+    lists.if_ok_from c.call.result (λ v. v ≡ called doc c.in-Call.func c.in_ok-args-in-Call.args at) (λ v. AreRows doc (rows_of v))
+    (λ v is. subst (λ u. AreRows doc (rows_of u)) (sym is) (gathers.called_run doc c.in-Call.func c.in_ok-args-in-Call.args at)) c.call.ensures
+
+-- ---- shorter ways
+
+pub after-returns-then-is_covered_step : goal.after-returns-then-is_covered_step
+after-returns-then-is_covered_step g t c =
+    let doc = g.S.Tree.document c.args.source.now in
+    let s = c.args.step.now in
+    let w = spec.walk_of doc s in
+    subst (λ v. IfOk c.from_each.result (λ found. found ≡ v))
+    (ap (λ v. spec.rows_in doc v w) c.as_slice.ensures.value
+    ∙ covering.covered_rows doc s c.args.rows.now c.in_ok-few.few.items (c.is_covered_step.ensures c.if-is_covered_step.true) c.in_ok-few.ensures.covers)
+    c.from_each.ensures
+
+pub kept-returns-in-Number : goal.kept-returns-in-Number
+kept-returns-in-Number g t c =
+    let doc = g.S.Tree.document c.args.source.now in
+    let rows = c.args.rows.now.items in
+    c.only.ensures ∙ kept.kept_from_same (λ at. Num (whole c.in-Number.n)) (spec.denote doc c.args.predicate.now) (λ at. sym (eqs.at_number doc c.in-Number.n at) ∙ sym (ap (λ x. spec.denote doc x at) c.in-Number.is))
+    (length rows) 1 rows
+
+pub value_at-returns-in-Some-clause-value : goal.value_at-returns-in-Some-clause-value
+value_at-returns-in-Some-clause-value g t c =
+    let doc = g.S.Tree.document c.args.source.now in
+    let at = context c.args.place in
+    ap Num c.axis_number.ensures
+    ∙ sym (counting.counted doc c.in-Call.es c.in-Some.step.now at (subst (λ v. IsLoneStep v c.in-Some.step.now) c.as_slice-then-is_count.ensures c.in-Some.ensures))
+    ∙ sym (ap (λ f. called doc f (map (λ x. spec.denote doc x at) c.in-Call.es) at) (c.is_count.ensures c.if-is_count.true))
+    ∙ sym (eqs.at_call doc c.in-Call.func c.in-Call.es at) ∙ sym (ap (λ x. spec.denote doc x at) c.in-Call.is)
