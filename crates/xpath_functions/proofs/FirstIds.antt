@@ -7,7 +7,7 @@ use Rattle.std.proofs.lemmas.Bool.{eq-eqb, ne_eqb}
 use Rattle.std.proofs.lemmas.List.{append-nil}
 use Rattle.std.proofs.lemmas.List.Folds.{list_any-append}
 use Rattle.std.proofs.lemmas.Slice.Eq.{bytes_eq-Decides}
-use Rattle.doc_model.specs.Document.{Document, row, rows, is_element}
+use Rattle.doc_model.specs.Document.{Document, row, is_element}
 use Rattle.doc_model.specs.RowLists.{Run}
 use Rattle.doc_model.proofs.Filters.{upto, upto_more}
 use Rattle.doc_model.proofs.Runs.{filter_run, run_le, range_split}

@@ -1,11 +1,11 @@
 -- The nearest attribute `xml:lang`.
-use Rattle.std.proofs.Common.{◌≡◌, refl, sym, ◌∙◌, ap, subst, ℕ, suc, ◌+◌, ◌<◌, ◌≤◌, Bool, true, false, ◌&&◌, ◌||◌, cond, List, [], ◌∷◌, ◌++◌, length, reverse, eqb, codes, arith, ◌⊎◌, inl, inr, Option, Some, None, option_to_list}
+use Rattle.std.proofs.Common.{◌≡◌, sym, ◌∙◌, ap, subst, ℕ, ◌+◌, ◌<◌, ◌≤◌, Bool, true, false, ◌&&◌, ◌||◌, cond, List, [], ◌∷◌, ◌++◌, length, reverse, eqb, codes, arith, ◌⊎◌, inl, inr, Option, Some, None, option_to_list}
 use Rattle.std.specs.Prelude.{filter}
 use Rattle.std.specs.List.{range_with_len}
 use Rattle.std.proofs.lemmas.Bool.{and_left, and_right, or_left, or_right, or_from, eq-eqb, ne_eqb, cases_lt}
 use Rattle.std.proofs.lemmas.List.{reverse-append}
 use Rattle.doc_model.specs.Document.{Document, row, rows, below, IsDocument}
-use Rattle.doc_model.proofs.Below.{small, not_up, below_less}
+use Rattle.doc_model.proofs.Below.{small, not_up}
 use Rattle.doc_model.proofs.Filters.{upto_more, upto_none, upto_all}
 use Rattle.doc_model.proofs.WalkSteps.{IsOver, none_above, over_within}
 use Rattle.xpath_parser.specs.Conversions.{is_any}

@@ -1,15 +1,15 @@
 -- The places of one text in another, by bytes and by characters.
-use Rattle.std.proofs.Common.{◌≡◌, ◌≢◌, refl, sym, ◌∙◌, ap, subst, ℕ, zero, suc, ◌+◌, ◌<◌, ◌≤◌, Bool, true, false, cond, eqb, List, [], ◌∷◌, ◌++◌, length, take, drop, Option, Some, None, encode_utf8, encode_utf8_all, arith, append_assoc}
+use Rattle.std.proofs.Common.{◌≡◌, ◌≢◌, refl, sym, ◌∙◌, ap, subst, ℕ, suc, ◌+◌, ◌<◌, ◌≤◌, Bool, true, false, cond, eqb, List, [], ◌∷◌, ◌++◌, length, take, drop, Some, None, encode_utf8, encode_utf8_all, arith, append_assoc}
 use Rattle.std.specs.Str.{chars, IsUtf8, IsCharBoundary}
 use Rattle.std.specs.List.{starts_with}
 use Rattle.std.specs.Str.Pattern.{FindsText, LacksTextAt}
 use Rattle.std.proofs.Math.Seq.{drop-append_seam, drop-append-add, take-length}
 use Rattle.std.proofs.lemmas.Bool.{eqb-true, eq-eqb}
-use Rattle.std.proofs.lemmas.List.{length-append, length-drop, take-append-drop, drop-append-le, take-append-le}
+use Rattle.std.proofs.lemmas.List.{length-append, length-drop, take-append-drop, take-append-le}
 use Rattle.std.proofs.lemmas.Slice.Eq.{starts_is}
 use Rattle.std.proofs.lemmas.Str.{chars-append, encodes-append, encodes-chars, cons_from_encodes, length-le-encodes, IsUtf8-append, IsUtf8-drop, IsUtf8-take, IsCharBoundary-at_seam}
 use Rattle.xpath_functions.proofs.Truths.{same_truth}
-use Rattle.xpath_values.specs.Strings.{begins, is_empty, one_more, place_of, before_place, after_place, str_before, str_after}
+use Rattle.xpath_values.specs.Strings.{begins, one_more, place_of, before_place, after_place, str_before, str_after}
 
 -- ---- beginning with a text
 

@@ -1,4 +1,4 @@
-use Rattle.std.proofs.Common.{◌≡◌, ℕ, ◌<◌, List, [], true, false, length, get_or, sym, ◌∙◌, ap, subst, IfOk, arith}
+use Rattle.std.proofs.Common.{◌≡◌, [], get_or, sym, ◌∙◌, ap, subst, IfOk, arith}
 use Rattle.std.specs.Str.{chars}
 use Rattle.doc_model.specs.StringValue.{string_value}
 use Rattle.xpath_values.specs.declared.value.Compare.TheVariants as op

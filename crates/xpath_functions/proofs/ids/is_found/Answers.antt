@@ -1,5 +1,4 @@
-use Rattle.std.proofs.Common.{◌≡◌, ℕ, List, sym, ◌∙◌, ap}
-use Rattle.std.specs.Str.{chars, bytes_eq}
+use Rattle.std.proofs.Common.{sym, ◌∙◌, ap}
 use Rattle.doc_model.specs.Document.{row}
 use Rattle.xpath_parser.specs.Functions.{has_id}
 use Rattle.xpath_functions.specs.Sets.{has_text}

@@ -1,4 +1,4 @@
-use Rattle.std.proofs.Common.{◌≡◌, List, ℕ, sym, ◌∙◌, ap, arith}
+use Rattle.std.proofs.Common.{◌≡◌, sym, ◌∙◌, ap, arith}
 use Rattle.std.specs.List.{list_any, range_with_len}
 use Rattle.xpath_parser.specs.Functions.{has_id, is_id}
 use Rattle.xpath_functions.proofs.FirstIds.{first_ids, fewer, kept, passed}

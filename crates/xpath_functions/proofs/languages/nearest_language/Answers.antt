@@ -1,4 +1,4 @@
-use Rattle.std.proofs.Common.{◌≡◌, [], refl, sym, ◌∙◌, ap, inl, codes, option_to_list, arith, Some}
+use Rattle.std.proofs.Common.{◌≡◌, [], refl, sym, ◌∙◌, ap, inl, codes, option_to_list, arith}
 use Rattle.std.proofs.Common.{◌∷◌}
 use Rattle.doc_model.proofs.Below.{small}
 use Rattle.doc_model.proofs.WalkSteps.{up_over}

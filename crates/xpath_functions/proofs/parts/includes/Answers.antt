@@ -1,5 +1,4 @@
 use Rattle.std.proofs.Common.{sym, ap}
-use Rattle.std.specs.Str.{chars}
 use Rattle.xpath_values.specs.Strings.{is_found}
 use Rattle.xpath_functions.proofs.Places.{split_is, not_found_chars}
 use Rattle.xpath_functions.proofs.parts.includes.Goals as goal

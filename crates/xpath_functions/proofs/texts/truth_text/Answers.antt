@@ -1,5 +1,4 @@
 use Rattle.std.proofs.Common.{sym, ◌∙◌, ap}
-use Rattle.std.specs.Str.{chars}
 use Rattle.xpath_values.specs.Strings.{text_of_bool}
 use Rattle.xpath_functions.proofs.Lists.{true_chars, false_chars}
 use Rattle.xpath_functions.proofs.texts.truth_text.Goals as goal
