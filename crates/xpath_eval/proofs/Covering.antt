@@ -105,23 +105,19 @@ module _ (doc : Document) where
 
   -- ---- what is left out adds nothing
 
-  covered_row : (s : Step) (x z y : ℕ) → (out-Step s).predicates ≡ [] → y < length doc → AddsNothing doc (out-Step s).axis z x → has y (walk_of doc s x) ≡ true → has y (walk_of doc s z) ≡ true
-  covered_row s x z y e l adds h =
-      let a = (out-Step s).axis in
-      let t = (out-Step s).test in
-      let two = and_parts _ _ (sym (ap (has y) (plain_walk s x e) ∙ has_axis x a t y l) ∙ h) in
-      ap (has y) (plain_walk s z e) ∙ has_axis z a t y l ∙ both_true _ _ (adds y l two.0) two.1
+  covered_row : (a : Axis) (t : NodeTest) (x z y : ℕ) → y < length doc → AddsNothing doc a z x → has y (axis_list doc x a t) ≡ true → has y (axis_list doc z a t) ≡ true
+  covered_row a t x z y l adds h = let two = and_parts _ _ (sym (has_axis x a t y l) ∙ h) in has_axis z a t y l ∙ both_true _ _ (adds y l two.0) two.1
 
-  pub covered_rows : (s : Step) (all few : List ℕ) → (out-Step s).predicates ≡ [] → Covers doc (out-Step s).axis all few → rows_in doc few (walk_of doc s) ≡ rows_in doc all (walk_of doc s)
+  pub covered_rows : (a : Axis) (t : NodeTest) (all few : List ℕ) → Covers doc a all few → rows_in doc few (λ x. axis_list doc x a t) ≡ rows_in doc all (λ x. axis_list doc x a t)
   unfolding rows_in
-  covered_rows s all few e c =
-      same_filter_below (λ y. list_any (λ x. has y (walk_of doc s x)) few) (λ y. list_any (λ x. has y (walk_of doc s x)) all) (length doc) 0 (λ y low l.
+  covered_rows a t all few c =
+      same_filter_below (λ y. list_any (λ x. has y (axis_list doc x a t)) few) (λ y. list_any (λ x. has y (axis_list doc x a t)) all) (length doc) 0 (λ y low l.
       let there : y < length doc = omega (arith, l) in
       same_truth _ _
-      (λ h. let m = any_member (λ x. has y (walk_of doc s x)) few h in member_any (λ x. has y (walk_of doc s x)) all m.0 (c.some m.0 m.1) m.2)
-      (λ h. let m = any_member (λ x. has y (walk_of doc s x)) all h in
+      (λ h. let m = any_member (λ x. has y (axis_list doc x a t)) few h in member_any (λ x. has y (axis_list doc x a t)) all m.0 (c.some m.0 m.1) m.2)
+      (λ h. let m = any_member (λ x. has y (axis_list doc x a t)) all h in
       let z = c.all m.0 m.1 in
-      member_any (λ x. has y (walk_of doc s x)) few z.0 z.1 (covered_row s m.0 z.0 y e there z.2 m.2)))
+      member_any (λ x. has y (axis_list doc x a t)) few z.0 z.1 (covered_row a t m.0 z.0 y there z.2 m.2)))
 
   -- ---- the loop that leaves rows out
 

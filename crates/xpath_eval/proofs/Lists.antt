@@ -7,7 +7,7 @@ use Rattle.std.proofs.lemmas.Bool.Decides.{nat_tests}
 use Rattle.std.proofs.lemmas.List.Folds.{list_any_at}
 use Rattle.std.proofs.lemmas.List.{reverse-append, take_more}
 use Rattle.std.proofs.Math.Seq.{drop-cons}
-use Rattle.std.proofs.lemmas.List.Elements.{All-nil, All-cons, All-head, All-tail}
+use Rattle.std.proofs.lemmas.List.Elements.{All-nil, All-cons, All-head, All-tail, All-more}
 use Rattle.doc_model.specs.RowLists.{Run, has}
 use Rattle.doc_model.proofs.Runs.{run_le, run_lower, has_append}
 use Rattle.xpath_eval.specs.Rows.{AllBelow}
@@ -126,3 +126,11 @@ if_ok_from (Err e) P Q f h = tt
 
 pub member_at : (xs : List ℕ) (i : ℕ) → i < length xs → has (get_or xs i 0) xs ≡ true
 member_at xs i h = list_any_at (λ x. eqb x (get_or xs i 0)) xs i 0 h (itself (get_or xs i 0))
+
+pub single : (xs : List ℕ) → length xs ≡ 1 → xs ≡ get_or xs 0 0 ∷ []
+single [] h = absurd (let none : length {A = ℕ} [] ≡ 0 = refl in omega (arith, h, none))
+single (x ∷ []) h = refl
+single (x ∷ y ∷ ys) h = absurd (let long : length (x ∷ y ∷ ys) ≡ suc (suc (length ys)) = refl in omega (arith, h, long))
+
+pub all_more : {A : Type 0} (P : A → Type 0) (xs : List A) (i : ℕ) (x : A) → x ≡ get_or xs i x → i < length xs → All P (take i xs) → P x → All P (take (i + 1) xs)
+all_more P xs i x is h before here = All-more P xs i x h before (subst P is here)

@@ -3,14 +3,12 @@ ghost use Rattle.std.specs.Prelude.{◌≡◌, ◌<◌, ◌++◌, ◌∷◌, ◌
 ghost use Rattle.doc_model.specs.Axes.{are_siblings};
 ghost use Rattle.doc_model.specs.Document as document;
 ghost use Rattle.doc_model.specs.Document.{below};
-ghost use Rattle.xpath_parser.specs.declared.expression.Step.{out-Step};
 ghost use Rattle.xpath_eval.specs.Contexts.{AddsNothing, Covers, IsCovered};
 ghost use Rattle.xpath_eval.specs.Rows.{AllBelow};
 
 use doc_model::{Axis, Kind, Tree};
 use std::alloc::Global;
 use text_base::NoMemory;
-use xpath_parser::Step;
 
 fn is_attribute<T: Tree>(tree: &T, x: u32) -> bool
     requires { x < length (T.document tree.now) }
@@ -128,18 +126,15 @@ pub fn covering<T: Tree>(
     fewer(alloc, tree, axis, rows)
 }
 
-/// Whether a step has no predicates and an axis on which rows can be left out.
-pub fn is_covered_step(step: &Step) -> bool
-    ensures { IsTrue result → (out-Step step.now).predicates ≡ [] }
-{
-    let down = matches!(
-        step.axis,
+/// Whether rows can be left out on an axis.
+pub fn can_cover(axis: Axis) -> bool {
+    matches!(
+        axis,
         Axis::Descendant
             | Axis::DescendantOrSelf
             | Axis::Following
             | Axis::Preceding
             | Axis::FollowingSibling
             | Axis::PrecedingSibling
-    );
-    down && step.predicates.len() == 0
+    )
 }

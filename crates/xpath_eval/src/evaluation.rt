@@ -8,13 +8,14 @@ ghost use Rattle.xpath_functions.specs.Rows.{AreWithin, IsWithin};
 ghost use Rattle.xpath_eval.specs.Places.{context};
 ghost use Rattle.xpath_eval.specs.Rows.{AreRows, AllBelow};
 
-use crate::contexts::{covering, is_covered_step};
+use crate::axis_steps::axis_from;
 use crate::counts::{axis_number, is_count, lone_step, only};
 use crate::forms::{
     applied, axis_rows, keeps, literal_number, nodes, put_if, rows_of_nodes, signed,
 };
 use crate::ordering::{add, add_list, ordered};
 use crate::place::Place;
+use crate::tests_of_rows::are_tests;
 use doc_model::Axes;
 use std::alloc::Global;
 use text_base::{NoMemory, Seq, Txt};
@@ -209,7 +210,8 @@ fn path<S: Axes>(
     Ok(rows)
 }
 
-/// The rows of a step from the rows together. Rows that add nothing to those of another one are left out.
+/// The rows of a step from the rows together. Predicates that ask about the row alone are asked once for each row that
+/// is found.
 #[cycle(evaluation)]
 fn after<S: Axes>(
     alloc: Global,
@@ -220,9 +222,10 @@ fn after<S: Axes>(
     requires { AllBelow (length (S.document source.now)) rows.now }
     ensures { IfOk result (λ found. found ≡ spec.rows_in (S.document source.now) rows.now (spec.walk_of (S.document source.now) step.now)) }
 {
-    if rows.len() > 1 && is_covered_step(step) {
-        let few = covering(alloc, source, step.axis, rows)?;
-        return from_each(alloc, source, few.as_slice(), step);
+    if are_tests(step.predicates.as_slice()) {
+        let mut found = axis_from(alloc, source, rows, step.axis, &step.test)?;
+        filtered(alloc, source, &mut found, step.predicates.as_slice())?;
+        return Ok(Seq::from_vec(found));
     }
     from_each(alloc, source, rows, step)
 }

@@ -20,8 +20,9 @@ use Rattle.xpath_eval.specs.Places.{context}
 use Rattle.xpath_eval.specs.Rows.{AreRows, AllBelow}
 use Rattle.xpath_values.specs.Numbers.{whole}
 use Rattle.xpath_eval.specs.Steps.{IsLoneStep}
+use Rattle.xpath_eval.specs.Tests.{AreTests}
 use Rattle.xpath_eval.proofs.Counting as counting
-use Rattle.xpath_eval.proofs.Covering as covering
+use Rattle.xpath_eval.proofs.Filtering as filtering
 use Rattle.xpath_eval.proofs.Gathers as gathers
 use Rattle.xpath_eval.proofs.Kept as kept
 use Rattle.xpath_eval.proofs.Lists as lists
@@ -266,15 +267,14 @@ value_at-returns-in_ok-args-in-Call-clause-rows g t c =
 
 -- ---- shorter ways
 
-pub after-returns-then-is_covered_step : goal.after-returns-then-is_covered_step
-after-returns-then-is_covered_step g t c =
+pub after-returns-then-are_tests : goal.after-returns-then-are_tests
+after-returns-then-are_tests g t c =
     let doc = g.S.Tree.document c.args.source.now in
     let s = c.args.step.now in
-    let w = spec.walk_of doc s in
-    subst (λ v. IfOk c.from_each.result (λ found. found ≡ v))
-    (ap (λ v. spec.rows_in doc v w) c.as_slice.ensures.value
-    ∙ covering.covered_rows doc s c.args.rows.now c.in_ok-few.few.items (c.is_covered_step.ensures c.if-is_covered_step.true) c.in_ok-few.ensures.covers)
-    c.from_each.ensures
+    c.from_vec.ensures ∙ c.in_ok-filtered.ensures
+    ∙ ap (λ ps. spec.kept (map (spec.denote doc) ps) c.in_ok-found.found.items) c.as_slice-then-are_tests.ensures
+    ∙ ap (spec.kept (map (spec.denote doc) (out-Step s).predicates)) c.in_ok-found.ensures.rows
+    ∙ filtering.tested_after doc s c.args.rows.now (subst AreTests c.as_slice.ensures (c.are_tests.ensures c.if-are_tests.true))
 
 pub kept-returns-in-Number : goal.kept-returns-in-Number
 kept-returns-in-Number g t c =
