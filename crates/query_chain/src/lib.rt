@@ -14,3 +14,6 @@ mod steps;
 
 pub use laws::{a_value, one_value};
 pub use run::run_field;
+
+#[cfg(test)]
+mod tests;
