@@ -143,7 +143,7 @@ pub along_many : (limits : Limits) (f g : Found) (re : Re) (hay : List ℕ) (gro
 along_many limits f g re hay groups after m n more a =
     let rest = left_texts re hay groups (m.trace.end + 1) in
     let size : length (match_texts re groups hay) ≡ length a.front + (length (texts_of groups hay m) + length rest) =
-        ap length (sym a.whole ∙ ap (λ ts. a.front ++ ts) (left_more re hay groups after m.trace.end m n refl)) ∙ (length-append a.front (texts_of groups hay m ++ rest) ∙ ap (λ k. length a.front + k) (length-append (texts_of groups hay m) rest)) in
+    ap length (sym a.whole ∙ ap (λ ts. a.front ++ ts) (left_more re hay groups after m.trace.end m n refl)) ∙ (length-append a.front (texts_of groups hay m ++ rest) ∙ ap (λ k. length a.front + k) (length-append (texts_of groups hay m) rest)) in
     let count = a.adds.count in
     let same = length-map a.front chars in
     omega (arith, size, count, same)

@@ -89,6 +89,6 @@ all_over limits f g xs new a is =
     let bytes = new.bytes in
     let few : g.count ≤ limits.items = a.few (omega (arith, zero)) in
     (omega (arith, count, zero, few), more (a.over is)) where
-  more : (f.is_over ≡ true) ⊎ (limits.bytes < f.bytes + bytes_of xs) → limits.bytes < bytes_of xs
-  more (inl was) = let e : true ≡ false = sym was ∙ new.fits in cc
-  more (inr h) = let bytes = new.bytes in omega (arith, bytes, h)
+      more : (f.is_over ≡ true) ⊎ (limits.bytes < f.bytes + bytes_of xs) → limits.bytes < bytes_of xs
+      more (inl was) = let e : true ≡ false = sym was ∙ new.fits in cc
+      more (inr h) = let bytes = new.bytes in omega (arith, bytes, h)

@@ -60,7 +60,7 @@ pub texts_over : (doc : Document) (a : Action) (xs : List ℕ) (i left limit : �
 texts_over doc a xs i left limit got t h e v s more =
     let rest = at_rows doc a (drop (suc i) xs) in
     let parts : strings (step_items doc a (map node xs)) ≡ got ++ (t ∷ strings rest) =
-        ap strings (split_at doc a xs i (map text got) (text t ∷ []) h e v) ∙ (strings-append (map text got) (text t ∷ rest) ∙ ap (λ r. r ++ (t ∷ strings rest)) (strings_texts got)) in
+    ap strings (split_at doc a xs i (map text got) (text t ∷ []) h e v) ∙ (strings-append (map text got) (text t ∷ rest) ∙ ap (λ r. r ++ (t ∷ strings rest)) (strings_texts got)) in
     let size = ap bytes_of parts ∙ bytes-append got (t ∷ strings rest) in
     let this = bytes-append (t ∷ []) (strings rest) in
     let one = sum_by_push (λ t. length (encode_utf8_all t)) [] t in

@@ -218,7 +218,7 @@ answered limits doc x actions end items ts e n t m =
     let given : ts ≡ taken_texts end (item_texts doc (last_items doc (node x ∷ []) actions)) = t ∙ ap (λ r. taken_texts end (item_texts doc r)) e in
     ap (value_of end) given
     ∙ ap (λ r. first_reason r (value_of end (taken_texts end (item_texts doc (last_items doc (node x ∷ []) actions)))))
-      (sym (ap (λ r. r ++ end_passes limits doc (taken_texts end (item_texts doc (last_items doc (node x ∷ []) actions)))) n ∙ (ap (end_passes limits doc) (sym given) ∙ m)))
+    (sym (ap (λ r. r ++ end_passes limits doc (taken_texts end (item_texts doc (last_items doc (node x ∷ []) actions)))) n ∙ (ap (end_passes limits doc) (sym given) ∙ m)))
 
 pub stopped_early : (limits : Limits) (doc : Document) (x : ℕ) (actions : List Action) (end : Take) (s : Stop) → IsFirst s (steps_pass limits doc (node x ∷ []) actions) → IsStopOf s (answer limits doc x actions end)
 stopped_early limits doc x actions end s h = stops_value s _ _ (stops_first s (steps_pass limits doc (node x ∷ []) actions) _ h)

@@ -54,16 +54,19 @@ fn run_chain<S: Axes>(
 /// At most 1,000,000 items come from a step, and the texts that a step searches, those that it
 /// gives and those of the value have at most 8,388,608 bytes together. The time is in proportion to
 /// what the steps visit and write up to the first limit.
-pub fn run_field<S: Axes>(
-    alloc: Global,
-    source: &S,
-    field: &Field,
-) -> Result<FieldValue, NoMemory>
+pub fn run_field<S: Axes>(alloc: Global, source: &S, field: &Field) -> Result<FieldValue, NoMemory>
     requires { IsOrdered field.now }
     ensures { IfOk result (λ v. IsValue (S.document source.now) field.now v) }
 {
     match &field.chain {
         Chain::Refused(reason) => Ok(FieldValue::Refused(*reason)),
-        Chain::Steps(steps, end) => run_chain(alloc, source, steps.as_slice(), *end, 0, FIELD_LIMITS),
+        Chain::Steps(steps, end) => run_chain(
+            alloc,
+            source,
+            steps.as_slice(),
+            *end,
+            0,
+            FIELD_LIMITS,
+        ),
     }
 }

@@ -60,13 +60,7 @@ fn search_start(matcher: &mut Matcher<'_>, text: &str, after: usize) -> usize
     }
     let end = after - 1;
     match matcher.find_at(text, end) {
-        Some(found) => {
-            if found.end() == end {
-                after
-            } else {
-                end
-            }
-        }
+        Some(found) => { if found.end() == end { after } else { end } }
         None => end,
     }
 }

@@ -174,21 +174,45 @@ fn gives_values(rt: HostRuntime) -> Result<(), Fail> {
         (&NEXT[..], "x: xpath(\"number('x')\").get()", "NaN"),
         (&NEXT[..], "x: xpath('5 mod 0').get()", "NaN"),
         (&NEXT[..], "x: xpath('-5 mod 2').get()", "-1"),
-        (&NEXT[..], "x: xpath(\"substring('12345', 0, 3)\").get()", "12"),
+        (
+            &NEXT[..],
+            "x: xpath(\"substring('12345', 0, 3)\").get()",
+            "12",
+        ),
         (&NEXT[..], "x: xpath('1 = 1').getall()", "|true"),
-        (&LISTED[..], "x: xpath('name(//li/ancestor::*[1])').get()", "ul"),
-        (&LISTED[..], "x: xpath('//li/preceding::*[1]').getall()", "|<p>a</p>"),
-        (&LISTED[..], "x: xpath('//li/ancestor::*').xpath('name()').getall()", "|div|ul"),
+        (
+            &LISTED[..],
+            "x: xpath('name(//li/ancestor::*[1])').get()",
+            "ul",
+        ),
+        (
+            &LISTED[..],
+            "x: xpath('//li/preceding::*[1]').getall()",
+            "|<p>a</p>",
+        ),
+        (
+            &LISTED[..],
+            "x: xpath('//li/ancestor::*').xpath('name()').getall()",
+            "|div|ul",
+        ),
         (&FED[..], "f: css('p.a').getall()", ""),
         (&FED[..], "f: css('p.a').get()", "null"),
         (&FED[..], "f: css('p::attr(class)').get()", "a\u{c}b"),
-        (&PAIRS[..], "r: css('p::text').re('(\\d+)-(x)?').getall()", "|1|x|2|"),
+        (
+            &PAIRS[..],
+            "r: css('p::text').re('(\\d+)-(x)?').getall()",
+            "|1|x|2|",
+        ),
         (&PAIRS[..], "r: css('p').re('\\d').re('.').getall()", "|1|2"),
         (&PAIRS[..], "r: css('p').re('z').get()", "null"),
         (&LETTERS[..], "r: css('p::text').re('a*').getall()", "|aa|"),
         (&LETTERS[..], "w: re('(').getall()", "Pattern"),
         (&LETTERS[..], "w: css('q').re('(').get()", "Pattern"),
-        (&LETTERS[..], "1x: css('a').get(); y: css('a'); z: re('a').css('b').get()", "NameChainOrder"),
+        (
+            &LETTERS[..],
+            "1x: css('a').get(); y: css('a'); z: re('a').css('b').get()",
+            "NameChainOrder",
+        ),
     ] {
         let got = run(rt.alloc(), steps, script)?;
         assert_eq!(rt; got.as_str(), want, "{script}");
@@ -212,8 +236,16 @@ fn many(alloc: Global, n: u32) -> Result<Vec<Step>, NoMemory> {
 fn keeps_limits(rt: HostRuntime) -> Result<(), Fail> {
     let alloc = rt.alloc();
     for (n, script, want) in [
-        (1000, "x: css('i').xpath('//i').xpath('1 = 2').re('t').getall()", ""),
-        (1001, "x: css('i').xpath('//i').xpath('1 = 2').re('t').getall()", "Selection"),
+        (
+            1000,
+            "x: css('i').xpath('//i').xpath('1 = 2').re('t').getall()",
+            "",
+        ),
+        (
+            1001,
+            "x: css('i').xpath('//i').xpath('1 = 2').re('t').getall()",
+            "Selection",
+        ),
     ] {
         let steps = many(alloc, n)?;
         let got = run(alloc, steps.as_slice(), script)?;

@@ -68,7 +68,10 @@ fn scripts(rt: HostRuntime) -> Result<(), Fail> {
         ),
         ("a: re('x;y\nz.').getall()", "a|match x;y\nz.|all\n"),
         ("a: re('\\').get()", "a|match \\|first\n"),
-        ("é: css('a').get(); a: re('é').get()", "!field.Name\na|match é|first\n"),
+        (
+            "é: css('a').get(); a: re('é').get()",
+            "!field.Name\na|match é|first\n",
+        ),
         (
             "a: css('a &').get(); b: css('a:frob').css('&').get()",
             "a!css.Text\nb!css.UnknownPseudo\n",

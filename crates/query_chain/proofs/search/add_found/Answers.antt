@@ -13,14 +13,14 @@ use Rattle.query_chain.proofs.search.add_found.Goals as goal
 pub returns-clause-ok : goal.returns-clause-ok
 returns-clause-ok c =
     let same = finds c.args.regex.now (chars (regex_source c.args.regex.now)) (chars c.args.text.now) c.args.text.now c.captures_len-groups.result c.requires.built
-        c.captures_len-groups.ensures.names (sym (encode-chars c.args.text.now c.utf8.text)) (λ k. omega (arith, c.type_inv.text k)) in
+    c.captures_len-groups.ensures.names (sym (encode-chars c.args.text.now c.utf8.text)) (λ k. omega (arith, c.type_inv.text k)) in
     subst (λ ts. Adds c.args.limits c.args.out.now c.add_matches.new.out ts) same (rw c.requires.same at c.in_ok-add_matches.ensures.ok)
 
 pub returns-in_err-add_matches-clause-many : goal.returns-in_err-add_matches-clause-many
 returns-in_err-add_matches-clause-many c =
     let p = err_from_is_err_and c.from_residual.result c.from_residual.ensures.1 in
     let same = finds c.args.regex.now (chars (regex_source c.args.regex.now)) (chars c.args.text.now) c.args.text.now c.captures_len-groups.result c.requires.built
-        c.captures_len-groups.ensures.names (sym (encode-chars c.args.text.now c.utf8.text)) (λ k. omega (arith, c.type_inv.text k)) in
+    c.captures_len-groups.ensures.names (sym (encode-chars c.args.text.now c.utf8.text)) (λ k. omega (arith, c.type_inv.text k)) in
     rw (p.1, p.2) (λ e.
     let size = ap length same in
     let kept = length-map (match_texts (regex_pattern c.args.regex.now) c.captures_len-groups.result c.args.text.now) chars in

@@ -27,7 +27,7 @@ loop-step-preserved g c =
     let i = c.loop-step.step-index in
     let r = c.step-item.result in
     let whole : map action_of (drop i steps) ≡ action_of r ∷ map action_of (drop (i + 1) steps) =
-        ap (map action_of) (drop_more steps i r c.loop-step-test.true ∙ ap (λ q. q ∷ drop (i + 1) steps) (sym c.step-item.is)) in
+    ap (map action_of) (drop_more steps i r c.loop-step-test.true ∙ ap (λ q. q ∷ drop (i + 1) steps) (sym c.step-item.is)) in
     record {
       on = on_step c.args.limits doc (node c.args.x ∷ []) (map action_of steps) (items_of c.loop-step.items) _ (action_of r) (map action_of (drop (i + 1) steps)) (map action_of (drop i steps)) whole
           c.in_ok-next.ensures.items c.in_ok-next.ensures.passes c.loop-step.invariant.on;
@@ -43,7 +43,7 @@ returns-in_err-next-clause-stop g c =
     let i = c.loop-step.step-index in
     let r = c.step-item.result in
     let whole : map action_of (drop i steps) ≡ action_of r ∷ map action_of (drop (i + 1) steps) =
-        ap (map action_of) (drop_more steps i r c.loop-step-test.true ∙ ap (λ q. q ∷ drop (i + 1) steps) (sym c.step-item.is)) in
+    ap (map action_of) (drop_more steps i r c.loop-step-test.true ∙ ap (λ q. q ∷ drop (i + 1) steps) (sym c.step-item.is)) in
     rw (p.1, p.2) (on_stop c.args.limits doc (node c.args.x ∷ []) (map action_of steps) (items_of c.loop-step.items) (action_of r) (map action_of (drop (i + 1) steps)) (map action_of (drop i steps)) _ whole
     c.in_err-next.ensures.stop c.loop-step.invariant.on)
 

@@ -7,7 +7,7 @@ use Rattle.query_chain.proofs.steps.run_steps.Goals as goal
 pub returns-clause-value : goal.returns-clause-value
 returns-clause-value g c =
     c.value_of.ensures ∙ answered c.args.limits (g.S.Tree.document c.args.source.now) c.args.x (map action_of c.args.steps.now) c.args.end (items_of c.in_ok-items.items) c.in_ok-texts.texts.items
-        c.in_ok-items.ensures.items c.in_ok-items.ensures.passes c.in_ok-texts.ensures.texts c.in_ok-texts.ensures.passes
+    c.in_ok-items.ensures.items c.in_ok-items.ensures.passes c.in_ok-texts.ensures.texts c.in_ok-texts.ensures.passes
 
 pub returns-in_err-items-clause-stop : goal.returns-in_err-items-clause-stop
 returns-in_err-items-clause-stop g c =
