@@ -47,7 +47,7 @@ pub fn rows_of_nodes<T: Tree>(alloc: Global, tree: &T, value: Value) -> Result<V
     Ok(Vec::from_slice(alloc, rows.as_slice())?)
 }
 
-/// The rows on an axis that pass a test, in the order of the axis.
+/// The rows on an axis that a test lets through, in the order of the axis.
 pub fn axis_rows<S: Axes>(
     alloc: Global,
     source: &S,
