@@ -1,6 +1,6 @@
 //! Runs of scripts on pages in memory.
 use crate::status::Status;
-use crate::tested::{run, run_failing, sink_of};
+use crate::tested::{run, run_failing, run_script, sink_of};
 use std::alloc::Global;
 use std::test::Fail;
 use text_base::NoMemory;
@@ -13,12 +13,7 @@ fn is_line(
     status: Status,
     line: &str,
 ) -> Result<bool, NoMemory> {
-    let ran = run(
-        alloc,
-        ["run", "html", script, "a.html"].as_slice(),
-        [("a.html", page.as_bytes())].as_slice(),
-        9_999,
-    )?;
+    let ran = run_script(alloc, script, page)?;
     Ok(ran.status == status && ran.bytes.as_slice() == line.as_bytes())
 }
 

@@ -98,6 +98,31 @@ pub fn run(
     })
 }
 
+/// Runs the script on the page `a.html`, which is read whole.
+pub fn run_script(alloc: Global, script: &str, page: &str) -> Result<Ran, NoMemory> {
+    let mut words = Vec::new(alloc);
+    words.push(String::from_str(alloc, "run")?)?;
+    words.push(String::from_str(alloc, "html")?)?;
+    words.push(String::from_str(alloc, script)?)?;
+    words.push(String::from_str(alloc, "a.html")?)?;
+    let mut files = Vec::new(alloc);
+    files.push(PageFile {
+        name: Txt::of(alloc, "a.html")?,
+        bytes: Seq::from_vec(page.as_bytes().to_vec(alloc)?),
+    })?;
+    let mut noting = Noting {
+        pages: SurePages::new(Seq::from_vec(files), 9_999),
+        names: String::new(alloc),
+    };
+    let mut sink = sink_of(alloc, 9_999, 0)?;
+    let status = extract(alloc, words.as_slice(), &mut noting, &mut sink);
+    Ok(Ran {
+        status,
+        bytes: sink.bytes().to_vec(alloc)?,
+        names: noting.names,
+    })
+}
+
 /// Runs the words on these pages, of which a read gives at most `most` bytes and the call of this number fails.
 pub fn run_failing(
     alloc: Global,
