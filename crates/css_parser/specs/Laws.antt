@@ -1,5 +1,5 @@
 -- What holds of all texts.
-use Rattle.std.specs.Prelude.{◌≡◌, ℕ, List}
+use Rattle.std.specs.Prelude.{◌≡◌, ◌⊎◌, ℕ, List}
 use Rattle.css_meaning.specs.declared.selector.SelectorList.{SelectorList}
 use Rattle.css_meaning.specs.WellMade.{WellMade}
 use Rattle.text_base.specs.declared.reasons.SelectorFault.{SelectorFault}
@@ -15,6 +15,10 @@ HasOneFault = (text : List ℕ) (fault other : SelectorFault) → IsFault text f
 
 abbrev pub IsListOrFault : Type 0
 IsListOrFault = (text : List ℕ) (list : SelectorList) (fault : SelectorFault) → Accepts text list → IsFault text fault → ⊥
+
+-- each text is accepted or has a fault
+abbrev pub HasListOrFault : Type 0
+HasListOrFault = (text : List ℕ) → ((list : SelectorList) × Accepts text list) ⊎ ((fault : SelectorFault) × IsFault text fault)
 
 -- every accepted list is well made
 abbrev pub IsWellMade : Type 0

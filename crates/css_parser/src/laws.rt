@@ -1,11 +1,11 @@
-ghost use Rattle.css_parser.specs.Laws.{HasOneReading, HasOneFault, IsListOrFault, IsWellMade};
+ghost use Rattle.css_parser.specs.Laws.{HasListOrFault, HasOneReading, HasOneFault, IsListOrFault, IsWellMade};
 
-/// A text is accepted as one list at most, and that list is well made. It has one fault at most, and
-/// none where it is accepted.
-#[tactic(auto, using(crate::proofs::SelectingLemmas::one_fault))]
+/// Each text is accepted as one list, which is well made, or has one fault, and not both.
+#[tactic(auto, using(crate::proofs::SelectingLemmas::one_fault, crate::proofs::Existence::each_list_or_fault))]
 pub fn one_list_or_fault()
     ensures one_list { HasOneReading }
     ensures one_fault { HasOneFault }
     ensures not_both { IsListOrFault }
+    ensures some { HasListOrFault }
     ensures well_made { IsWellMade }
 {}
