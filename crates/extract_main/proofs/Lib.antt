@@ -1,3 +1,4 @@
+pub mod BulkFields
 pub mod BulkLemmas
 pub mod Complete
 pub mod Counts

@@ -2,8 +2,12 @@
 use Rattle.std.specs.Prelude.{◌≡◌, ℕ, List, ◌⊎◌, ◌↔◌, Some}
 use Rattle.text_base.specs.declared.reasons.SelectorFault.{SelectorFault}
 use Rattle.css_meaning.specs.declared.selector.Dialect.{Dialect}
+use Rattle.css_meaning.specs.declared.selector.Dialect.TheVariants.{Html}
 use Rattle.css_meaning.specs.declared.selector.SelectorList.{SelectorList}
 use Rattle.css_parser.specs.Selecting.{Accepts}
+use Rattle.query_script.specs.declared.script.Field.{Field}
+use Rattle.query_script.specs.Fields.{IsScript}
+use Rattle.extract_main.specs.Bulk.{bulk_script}
 use Rattle.extract_main.specs.CssLines.{IsRefusedFor}
 use Rattle.extract_main.specs.Plans.{Plan, IsPlan}
 use Rattle.extract_main.specs.Words.{Command, IsWords, read}
@@ -25,3 +29,7 @@ PlanLaw = (command : Command) (plan other : Plan) → IsPlan command plan → Is
 -- The words have the form of a command exactly where they are that command's words.
 abbrev pub WordsLaw : Type 0
 WordsLaw = (words : List (List ℕ)) (command : Command) → (read words ≡ Some command) ↔ IsWords command words
+
+-- The script of the bulk page reads as fields.
+abbrev pub BulkLaw : Type 0
+BulkLaw = (fields : List Field) × IsScript Html bulk_script fields

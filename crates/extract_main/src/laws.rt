@@ -1,5 +1,5 @@
 //! Laws of the definitions that the contracts cite.
-ghost use Rattle.extract_main.specs.Laws.{ReadingLaw, PlanLaw, WordsLaw};
+ghost use Rattle.extract_main.specs.Laws.{BulkLaw, ReadingLaw, PlanLaw, WordsLaw};
 
 /// Each text is one selector list or is refused for one reason, and both only where the XPath of
 /// the list is too long.
@@ -7,7 +7,7 @@ pub fn one_reading()
     ensures { ReadingLaw }
 {}
 
-/// Each command has exactly one plan, so its output is one list of lines.
+/// A command has one plan at most, so that its output is one list of lines.
 pub fn one_plan()
     ensures { PlanLaw }
 {}
@@ -16,4 +16,10 @@ pub fn one_plan()
 #[tactic(auto, using(crate::proofs::Forms::words_read))]
 pub fn words_of_commands()
     ensures { WordsLaw }
+{}
+
+/// The script of the bulk page is not refused: it reads as fields.
+#[tactic(auto, using(crate::proofs::BulkFields::bulk_reads))]
+pub fn bulk_script_reads()
+    ensures { BulkLaw }
 {}

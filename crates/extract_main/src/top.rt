@@ -124,7 +124,7 @@ pub fn extract<P: Pages, W: Sink>(
     ensures told { P.told pages.new ≡ P.told pages.old }
     ensures no_pages { ForPlan (read (map string_bytes words.now)) (λ plan. names_of plan ≡ [] → (pages.new ≡ pages.old) × (result ≢ Status.ReadFault)) }
 
-    // Each command has a plan, and the law `one_plan` says that it is the only one.
+    // The command has a plan, and the law `one_plan` says that it is the only one.
     ensures planned { result ≢ Status.Memory → IfSome (read (map string_bytes words.now)) (λ command. (plan : Plan) × IsPlan command plan) }
 
     // Whatever the status, a prefix of the output was written.

@@ -2,7 +2,7 @@
 ghost use Rattle.query_script.specs.Laws.{HasFieldReason, HasOneFault, HasOneReading, IsReadOrRefused, HasReading};
 
 /// Each text reads as one list of fields or is refused as a whole, for one reason and not both.
-#[tactic(auto, using(crate::proofs::Unique::one_script, crate::proofs::Unique::one_script_fault, crate::proofs::Unique::read_or_refused))]
+#[tactic(auto, using(crate::proofs::Unique::one_script_fault, crate::proofs::Unique::read_or_refused))]
 pub fn read_or_refused()
     ensures one_reading { HasOneReading }
     ensures one_fault { HasOneFault }
