@@ -142,6 +142,9 @@ none_more p y r none here later z l = elim (cases_lt z y) [
   | inr k ↦ elim (cases_lt y z) [ inl j ↦ later z j l | inr j ↦ (let e : z ≡ y = omega arith in ap p e ∙ here) ]
 ]
 
+pub none_past : (p : ℕ → Bool) (y n : ℕ) → NoneTo p y → ((z : ℕ) → y ≤ z → z < n → p z ≡ false) → NoneTo p n
+none_past p y n none later z l = elim (cases_lt z y) [ inl k ↦ none z k | inr k ↦ later z k l ]
+
 -- a row is like e and is another
 abbrev pub is_other : Document → Bool → ℕ → ℕ → Bool
 is_other doc by_name e z = is_like doc by_name e z && not (eqb z e)
