@@ -3,22 +3,25 @@ use Rattle.std.proofs.Common.{◌≡◌, refl, ℕ, zero, suc, ◌+◌, ◌-◌,
 use Prim.Native.Nat.{min}
 use Rattle.std.specs.Prelude.{filter, flat_map}
 use Rattle.std.specs.List.{range_with_len}
-use Rattle.std.specs.Str.{bytes_eq}
+use Rattle.std.specs.Str.{chars, IsUtf8}
 use Rattle.std.specs.Cmp.Lexicographic.{pointwise}
 use Rattle.std.proofs.lemmas.Bool.{or_left, or_right, or_parts, or_cases, and_right, and_from, and_parts, both_ways, lt-ltb, le-ltb, ne_eqb}
 use Rattle.std.proofs.lemmas.Bool.Decides.{nat_tests}
 use Rattle.std.proofs.lemmas.List.{append-nil, drop_more, drop_all}
-use Rattle.std.proofs.lemmas.Str.{encodes-append}
+use Rattle.std.proofs.lemmas.Str.{encodes-append, encodes-chars, chars-nil}
 use Rattle.text_base.specs.Strings.{starts_with, contains}
 use Rattle.text_base.specs.Text.{first_place, find_where, begins_with}
+use Rattle.doc_model.specs.declared.Kind.{Kind}
+use Rattle.doc_model.specs.declared.Kind.TheVariants.{Attribute, Text, Comment}
 use Rattle.doc_model.specs.Document.{Document, row, rows, is_text, below, IsDocument}
 use Rattle.doc_model.specs.Ends.{IsEnd}
-use Rattle.doc_model.specs.StringValue.{texts_below}
+use Rattle.doc_model.specs.StringValue.{texts_below, string_value_of}
 use Rattle.doc_model.proofs.Below.{small, not_up}
 use Rattle.doc_model.proofs.Filters.{upto, upto_none}
 use Rattle.doc_model.proofs.Texts.{is_below, texts_all}
 use Rattle.css_meaning.specs.TextPlaces.{text_at, texts_from, bytes_from, begins_in}
 use Rattle.css_meaning.proofs.ListTests.{and_assoc}
+use Rattle.css_meaning.proofs.TextBytes.{contains_parts, contains_nothing, contains_bytes}
 
 -- ---- a piece and what is wanted
 
@@ -140,3 +143,47 @@ texts_are doc e to d end =
     ∙ ap (λ ys. ys ++ filter (is_below doc e) (range_with_len (e + 1) (to - (e + 1)))) (sym (upto_none (is_below doc e) (e + 1) (λ z l. and_right _ _ (not_up doc e z (small doc d) (omega arith)))))
     ∙ sym (upto (is_below doc e) (e + 1) to (omega arith)))
     ∙ texts_all doc e to d end
+
+-- ---- what a row adds
+
+row_parts : (doc : Document) (y to : ℕ) (w : List ℕ) → y < to
+    → contains (bytes_from doc y to) w ≡ (begins_in (encode_utf8_all (text_at doc y)) (bytes_from doc (y + 1) to) w || contains (bytes_from doc (y + 1) to) w)
+row_parts doc y to w l = ap (λ t. contains t w) (bytes_step doc y to l) ∙ contains_parts (encode_utf8_all (text_at doc y)) (bytes_from doc (y + 1) to) w
+
+pub row_passed : (doc : Document) (y to : ℕ) (w : List ℕ) → y < to → begins_in (encode_utf8_all (text_at doc y)) (bytes_from doc (y + 1) to) w ≡ false
+    → contains (bytes_from doc y to) w ≡ contains (bytes_from doc (y + 1) to) w
+row_passed doc y to w l h = row_parts doc y to w l ∙ ap (λ b. b || contains (bytes_from doc (y + 1) to) w) h
+
+pub row_found : (doc : Document) (y to : ℕ) (w : List ℕ) → y < to → begins_in (encode_utf8_all (text_at doc y)) (bytes_from doc (y + 1) to) w ≡ true → contains (bytes_from doc y to) w ≡ true
+row_found doc y to w l h = row_parts doc y to w l ∙ or_left _ _ h
+
+pub at_text : (doc : Document) (y : ℕ) (bytes : List ℕ) → is_text doc y ≡ true → bytes ≡ encode_utf8_all (row doc y).text → bytes ≡ encode_utf8_all (text_at doc y)
+at_text doc y bytes h e = e ∙ ap (λ b. encode_utf8_all (cond b (row doc y).text [])) (sym h)
+
+pub at_other : (doc : Document) (y : ℕ) (rest w : List ℕ) → is_text doc y ≡ false → begins_in (encode_utf8_all (text_at doc y)) rest w ≡ false
+at_other doc y rest w h = ap (λ b. begins_in (encode_utf8_all (cond b (row doc y).text [])) rest w) h
+
+-- ---- the same of characters
+
+pub by_chars : (bytes text w : List ℕ) → IsUtf8 w → bytes ≡ encode_utf8_all text → contains bytes w ≡ contains text (chars w)
+by_chars bytes text w utf8 e =
+    ap (λ t. contains t w) e ∙ ap (contains (encode_utf8_all text)) (sym (encodes-chars w utf8)) ∙ contains_bytes text (chars w)
+
+pub below_by_chars : (doc : Document) (e to : ℕ) (w : List ℕ) → IsDocument doc → IsEnd doc e to → IsUtf8 w → contains (bytes_from doc (e + 1) to) w ≡ contains (texts_below doc e) (chars w)
+below_by_chars doc e to w d end utf8 = by_chars (bytes_from doc (e + 1) to) (texts_below doc e) w utf8 (ap encode_utf8_all (texts_are doc e to d end))
+
+pub own_text : (doc : Document) (e : ℕ) (k : Kind) → (k ≡ Attribute) ⊎ ((k ≡ Text) ⊎ (k ≡ Comment)) → string_value_of k doc e ≡ (row doc e).text
+own_text doc e k (inl h) = ap (λ v. string_value_of v doc e) h
+own_text doc e k (inr (inl h)) = ap (λ v. string_value_of v doc e) h
+own_text doc e k (inr (inr h)) = ap (λ v. string_value_of v doc e) h
+
+pub nothing_wanted : (x w : List ℕ) → length w ≡ 0 → contains x (chars w) ≡ true
+nothing_wanted x [] h = ap (contains x) chars-nil ∙ contains_nothing x
+nothing_wanted x (b ∷ w) h = absurd (omega arith)
+
+pub some_wanted : (w : List ℕ) → (length w ≡ 0 → ⊥) → 0 < length w
+some_wanted [] h = absurd (h refl)
+some_wanted (b ∷ w) h = omega arith
+
+pub nothing_left : (doc : Document) (y to : ℕ) (w : List ℕ) → to ≤ y → 0 < length w → contains (bytes_from doc y to) w ≡ false
+nothing_left doc y to w l some = ap (λ t. contains t w) (bytes_none doc y to l) ∙ sym (no_start w some)
