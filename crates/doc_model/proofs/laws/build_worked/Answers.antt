@@ -4,7 +4,7 @@ use Rattle.std.specs.Str.{chars}
 use Rattle.doc_model.specs.Growing.{Growing, fresh, with_element, with_attr, with_text, with_comment, with_close, AwaitsAttr, AwaitsText}
 use Rattle.doc_model.proofs.Awaits.{awaits_first_attr, awaits_text}
 use Rattle.doc_model.proofs.Grown.{grown_fresh}
-use Rattle.doc_model.proofs.tests.build.Goals as goal
+use Rattle.doc_model.proofs.laws.build_worked.Goals as goal
 
 -- the characters of `p`, `c`, `x`, `ab`, `k`, `q` and `z`
 chars_p : chars (112 ∷ []) ≡ 112 ∷ []
