@@ -5,7 +5,7 @@ use Rattle.std.proofs.lemmas.List.{length_push, get_or_append_left, get_or_push,
 use Rattle.doc_model.specs.Document.{Row, Document, row, below, IsDocument}
 use Rattle.doc_model.specs.Ends.{IsEnd}
 use Rattle.doc_model.specs.Growing.{growing, innermost, IsChain, IsGrowing}
-use Rattle.doc_model.specs.VecRows.{is_open, AreEnds}
+use Rattle.doc_model.specs.KeptRows.{is_open, AreEnds}
 use Rattle.doc_model.proofs.Below.{Small, small, below_same, below_cases, below_trans, below_root, root_above}
 use Rattle.doc_model.proofs.Grown.{pushed_same, pushed_row, element_within, element_some, innermost_owner}
 

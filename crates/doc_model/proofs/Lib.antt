@@ -4,6 +4,7 @@ pub mod Below
 pub mod Ending
 pub mod Filters
 pub mod Grown
+mod KeptReads
 mod Partition
 mod Pushed
 pub mod Runs

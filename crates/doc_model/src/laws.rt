@@ -1,6 +1,11 @@
 //! What holds of all documents, and of one that was worked by hand.
+ghost use Rattle.std.specs.Prelude.{◌≡◌, IfOk};
+ghost use Rattle.doc_model.specs.Growing.{fresh};
 ghost use Rattle.doc_model.specs.Laws.{OneEnd, AxesPart};
-ghost use Rattle.doc_model.specs.Worked.{WorkedDocument, WorkedLists};
+ghost use Rattle.doc_model.specs.Worked.{worked, WorkedDocument, WorkedLists};
+
+use crate::grow::{Grow, Piece};
+use text_base::NoMemory;
 
 /// The rows below a row have one end.
 #[tactic(auto, using(crate::proofs::Partition::one_end))]
@@ -26,3 +31,20 @@ pub fn worked_is_document()
 pub fn worked_axes()
     ensures { WorkedLists }
 {}
+
+/// Any builder makes it, call by call: the document of `<p c="x">ab<!--k--><q>z</q></p>`.
+pub fn build_worked<'p, G: Grow<'p> + Drop>(grow: G) -> Result<G::Done, NoMemory>
+    requires { G.growing grow ≡ fresh }
+    ensures { IfOk result (λ done. G.Done.document done ≡ worked) }
+{
+    let mut grow = grow;
+    grow.element(Piece::Made("p"))?;
+    grow.attr(Piece::Made("c"), Piece::Page("x"))?;
+    grow.text(Piece::Page("ab"))?;
+    grow.comment(Piece::Page("k"))?;
+    grow.element(Piece::Made("q"))?;
+    grow.text(Piece::Page("z"))?;
+    grow.close();
+    grow.close();
+    grow.finish()
+}

@@ -1,27 +1,6 @@
-ghost use Rattle.std.specs.Prelude.{◌≡◌, IfOk};
-ghost use Rattle.doc_model.specs.Growing.{fresh};
-ghost use Rattle.doc_model.specs.Worked.{worked};
-
 use super::*;
 use std::alloc::Global;
 use text_base::{NoMemory, Seq};
-
-/// Builds the document of `<p c="x">ab<!--k--><q>z</q></p>`.
-fn build<'p, G: Grow<'p> + Drop>(grow: G) -> Result<G::Done, NoMemory>
-    requires { G.growing grow ≡ fresh }
-    ensures { IfOk result (λ done. G.Done.document done ≡ worked) }
-{
-    let mut grow = grow;
-    grow.element(Piece::Made("p"))?;
-    grow.attr(Piece::Made("c"), Piece::Page("x"))?;
-    grow.text(Piece::Page("ab"))?;
-    grow.comment(Piece::Page("k"))?;
-    grow.element(Piece::Made("q"))?;
-    grow.text(Piece::Page("z"))?;
-    grow.close();
-    grow.close();
-    grow.finish()
-}
 
 /// The rows on an axis, and how many they are counted to be.
 fn list<S: Axes>(
@@ -41,7 +20,7 @@ fn list<S: Axes>(
 
 #[test]
 fn lists_axes(rt: HostRuntime) {
-    let tree = Plain::new(build(VecGrow::new(rt.alloc())).expect(&rt, "memory"));
+    let tree = Plain::new(build_worked(VecGrow::new(rt.alloc())).expect(&rt, "memory"));
     for (x, axis, want) in [
         (1, Axis::Child, "[3, 4, 5]"),
         (0, Axis::Descendant, "[1, 3, 4, 5, 6]"),
@@ -71,7 +50,7 @@ fn lists_axes(rt: HostRuntime) {
 
 #[test]
 fn joins_texts_and_rows(rt: HostRuntime) {
-    let tree = build(VecGrow::new(rt.alloc())).expect(&rt, "memory");
+    let tree = build_worked(VecGrow::new(rt.alloc())).expect(&rt, "memory");
     if 1 < tree.len() {
         assert_eq!(rt;
             string_value(rt.alloc(), &tree, 1)

@@ -1,13 +1,11 @@
 //! Building a document that owns its rows.
-ghost use Rattle.std.specs.Prelude.{◌≡◌, ◌<◌, ◌+◌, ◌^◌, ℕ, [], length, reverse, IfOk};
-ghost use Rattle.doc_model.specs.Growing.{fresh, innermost, IsGrowing};
+ghost use Rattle.std.specs.Prelude.{◌≡◌, [], IfOk};
+ghost use Rattle.doc_model.specs.Growing.{fresh};
+ghost use Rattle.doc_model.specs.KeptRows.{growing_of};
 ghost use Rattle.doc_model.specs.Pieces.{piece_text};
-ghost use Rattle.doc_model.specs.Props.{is_growing_prop};
-ghost use Rattle.doc_model.specs.VecRows.{rows_of, ends_of, growing_of, AreEnds};
 
-use crate::Kind;
 use crate::grow::{Grow, Piece};
-use crate::vec_row::VecRow;
+use crate::growing_rows::GrowingRows;
 use crate::vec_tree::VecTree;
 use std::alloc::Global;
 use text_base::{NoMemory, Txt};
@@ -16,11 +14,7 @@ use text_base::{NoMemory, Txt};
 #[derive(Drop)]
 pub struct VecGrow {
     alloc: Global,
-    rows: Vec<VecRow>,
-    unclosed: Vec<u32>,
-    ghost grown: { IsGrowing (growing_of rows.items unclosed.items) } by { is_growing_prop _ },
-    ghost small: { length rows.items + 1 < 2 ^ 32 },
-    ghost ends: { AreEnds (rows_of rows.items) (reverse unclosed.items) (ends_of rows.items) },
+    kept: GrowingRows<Txt, Global>,
 }
 
 /// A copy of a piece.
@@ -47,107 +41,47 @@ impl VecGrow {
     {
         VecGrow {
             alloc,
-            rows: Vec::new(alloc),
-            unclosed: Vec::new(alloc),
+            kept: GrowingRows::new(alloc),
         }
-    }
-
-    /// The innermost open element, or the root node.
-    fn innermost(&self) -> u32
-        ensures { result ≡ innermost (reverse self.now.unclosed.items) }
-    {
-        match self.unclosed.last() {
-            Some(row) => *row,
-            None => 0,
-        }
-    }
-
-    /// The number of the next row.
-    fn next(&self) -> u32
-        ensures { result ≡ length self.now.rows.items + 1 }
-    {
-        self.rows.len() as u32 + 1
     }
 }
 
 impl<'p> Grow<'p> for VecGrow {
     type Done = VecTree;
 
-    ghost growing = { λ g. growing_of g.rows.items g.unclosed.items };
+    ghost growing = { λ g. growing_of g.kept.rows.items g.kept.unclosed.items };
 
-    ghost is_growing = { λ g. g.grown };
+    ghost is_growing = { λ g. g.kept.grown };
 
     fn element(&mut self, name: Piece<'p, '_>) -> Result<(), NoMemory> {
-        let row = VecRow {
-            kind: Kind::Element,
-            name: keep(self.alloc, name)?,
-            text: nothing(self.alloc),
-            parent: self.innermost(),
-            end: 0,
-        };
-        let at = self.next();
-        self.unclosed.push(at)?;
-        match self.rows.push(row) {
-            Ok(()) => Ok(()),
-            Err(_) => {
-                self.unclosed.pop();
-                Err(NoMemory)
-            }
-        }
+        let name = keep(self.alloc, name)?;
+        self.kept.element(name, nothing(self.alloc))
     }
 
     fn attr(&mut self, name: Piece<'p, '_>, value: Piece<'p, '_>) -> Result<(), NoMemory> {
-        let row = VecRow {
-            kind: Kind::Attribute,
-            name: keep(self.alloc, name)?,
-            text: keep(self.alloc, value)?,
-            parent: self.innermost(),
-            end: self.next() + 1,
-        };
-        match self.rows.push(row) {
-            Ok(()) => Ok(()),
-            Err(_) => Err(NoMemory),
-        }
+        let name = keep(self.alloc, name)?;
+        let value = keep(self.alloc, value)?;
+        self.kept.attr(name, value)
     }
 
     fn text(&mut self, text: Piece<'p, '_>) -> Result<(), NoMemory> {
-        let row = VecRow {
-            kind: Kind::Text,
-            name: nothing(self.alloc),
-            text: keep(self.alloc, text)?,
-            parent: self.innermost(),
-            end: self.next() + 1,
-        };
-        match self.rows.push(row) {
-            Ok(()) => Ok(()),
-            Err(_) => Err(NoMemory),
-        }
+        let text = keep(self.alloc, text)?;
+        self.kept.text(nothing(self.alloc), text)
     }
 
     fn comment(&mut self, text: Piece<'p, '_>) -> Result<(), NoMemory> {
-        let row = VecRow {
-            kind: Kind::Comment,
-            name: nothing(self.alloc),
-            text: keep(self.alloc, text)?,
-            parent: self.innermost(),
-            end: self.next() + 1,
-        };
-        match self.rows.push(row) {
-            Ok(()) => Ok(()),
-            Err(_) => Err(NoMemory),
-        }
+        let text = keep(self.alloc, text)?;
+        self.kept.comment(nothing(self.alloc), text)
     }
 
     fn close(&mut self) {
-        let end = self.next();
-        if let Some(row) = self.unclosed.pop() {
-            let closed = &mut self.rows[row as usize - 1];
-            closed.end = end;
-        }
+        self.kept.close();
     }
 
     fn finish(self) -> Result<VecTree, NoMemory> {
-        let VecGrow { rows, .. } = self;
-        Ok(VecTree { rows })
+        let VecGrow { kept, .. } = self;
+        Ok(VecTree {
+            rows: kept.into_rows(),
+        })
     }
 }
