@@ -1,0 +1,4 @@
+mod Texts
+mod Filled
+mod Places
+mod Firsts
