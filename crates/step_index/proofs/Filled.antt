@@ -31,7 +31,6 @@ named_more doc name y = upto_more (is_named doc name) y (y + 1) (omega arith) (�
 
 -- ---- attributes `id`
 
-
 pub is_id : (doc : Document) (z : ℕ) (text : List ℕ) (b : Bool) → IsUtf8 text → chars text ≡ (row doc z).name → (row doc z).kind ≡ Attribute → b ≡ bytes_eq text (codes "id")
     → b ≡ (is_attribute doc z && bytes_eq (row doc z).name (codes "id"))
 unfolding lib.Utf8.encode chars

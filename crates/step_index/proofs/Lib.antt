@@ -1,4 +1,5 @@
-mod Texts
+mod Axes
 mod Filled
-mod Places
 mod Firsts
+pub mod Places
+mod Texts

@@ -1,9 +1,9 @@
 -- How far the elements of a name go.
-use Rattle.std.proofs.Common.{◌≡◌, ℕ, zero, suc, ◌+◌, ◌-◌, ◌*◌, ◌^◌, ◌<◌, ◌≤◌, length, take, drop, Bool, true, false, ◌&&◌, ◌||◌, cond, eqb, nat_lt, List, [], ◌∷◌, ◌++◌, refl, sym, ◌∙◌, ap, subst, arith, inl, inr, ◌⊎◌, Option, Some, None, lt-ltb, mul-add, add-mul}
+use Rattle.std.proofs.Common.{◌≡◌, ℕ, zero, suc, ◌+◌, ◌-◌, ◌*◌, ◌^◌, ◌<◌, ◌≤◌, length, take, drop, Bool, true, false, ◌&&◌, ◌||◌, cond, eqb, nat_lt, List, [], ◌∷◌, ◌++◌, refl, sym, ◌∙◌, ap, subst, arith, inl, inr, ◌⊎◌, Option, Some, None, append_assoc, lt-ltb, mul-add, add-mul}
 use Rattle.std.specs.Prelude.{filter, slice_get, not}
 use Rattle.std.specs.List.{range_with_len}
 use Rattle.std.proofs.lemmas.Bool.{and_left, and_right, or_from, or_left, cases_lt, le-ltb, ltb-true, ltb-false, eq-eqb, ne_eqb, cond_both}
-use Rattle.std.proofs.lemmas.List.{length-append, append-nil}
+use Rattle.std.proofs.lemmas.List.{length-append, append-nil, take_all, take-append-drop}
 use Rattle.std.proofs.lemmas.Nat.{mul-le, pow_below, pow-add}
 use Rattle.doc_model.specs.declared.Kind.{Kind}
 use Rattle.doc_model.specs.declared.Kind.TheVariants.{Root, Element, Attribute, Text, Comment}
@@ -17,7 +17,7 @@ use Rattle.doc_model.specs.Walks.{chosen}
 use Rattle.doc_model.proofs.Below.{small, not_up, past_end}
 use Rattle.doc_model.proofs.Runs.{same_filter}
 use Rattle.doc_model.proofs.Filters.{none_in, from_to, upto, upto_none, single}
-use Rattle.step_index.specs.Named.{is_named, named, named_before, named_below}
+use Rattle.step_index.specs.Named.{is_named, named, named_before, named_below, GrowsByFront}
 
 -- ---- lists by place
 
@@ -53,15 +53,15 @@ one_taken (x ∷ xs) (suc k) y e = ap (λ v. x ∷ v) (one_taken xs k y e)
 
 -- ---- the rows of a filter
 
+member_at : (low n : ℕ) (b : Bool) (r : List ℕ) (k y : ℕ) → ((j : ℕ) → slice_get r j ≡ Some y → (low + 1 ≤ y) × (y < low + 1 + n)) → slice_get (cond b (low ∷ r) r) k ≡ Some y → (low ≤ y) × (y < low + suc n)
+member_at low n true r zero y next e = let s : low ≡ y = cc in (omega arith, omega arith)
+member_at low n true r (suc k) y next e = let m = next k e in (omega (arith, m.0), omega (arith, m.1))
+member_at low n false r k y next e = let m = next k e in (omega (arith, m.0), omega (arith, m.1))
+
 -- what stands in it is one of the range
 pub member : (p : ℕ → Bool) (n low k y : ℕ) → slice_get (filter p (range_with_len low n)) k ≡ Some y → (low ≤ y) × (y < low + n)
 member p zero low k y e = cc
-member p (suc n) low k y e = at (p low) k e
-  where
-    at : (b : Bool) (k : ℕ) → slice_get (cond b (low ∷ filter p (range_with_len (low + 1) n)) (filter p (range_with_len (low + 1) n))) k ≡ Some y → (low ≤ y) × (y < low + suc n)
-    at true zero e = let s : low ≡ y = cc in (omega arith, omega arith)
-    at true (suc k) e = let r = member p n (low + 1) k y e in (omega (arith, r.0), omega (arith, r.1))
-    at false k e = let r = member p n (low + 1) k y e in (omega (arith, r.0), omega (arith, r.1))
+member p (suc n) low k y e = member_at low n (p low) (filter p (range_with_len (low + 1) n)) k y (λ j h. member p n (low + 1) j y h) e
 
 pub filter_le : (p : ℕ → Bool) (n low : ℕ) → length (filter p (range_with_len low n)) ≤ n
 filter_le p zero low = omega arith
@@ -131,11 +131,52 @@ pub few_steps : (s d n : ℕ) → 2 ^ s ≤ 2 * n + 1 → n < 2 ^ d → s ≤ d
 few_steps s d n h l =
     elim (cases_lt d s) [
       | inl k ↦ elim (cases_lt (d + 1) s) [
-          | inl m ↦ absurd (omega (arith, h, l, pow_below (d + 1) s m, next_power d (d + 1) refl))
-          | inr m ↦ absurd (omega (arith, h, l, next_power d s (omega (arith, k, m))))
-        ]
+        | inl m ↦ absurd (omega (arith, h, l, pow_below (d + 1) s m, next_power d (d + 1) refl))
+        | inr m ↦ absurd (omega (arith, h, l, next_power d s (omega (arith, k, m))))
+      ]
       | inr k ↦ k
     ]
+
+pub start_halved : (s e n : ℕ) → e ≤ n → 2 ^ (s - s) * (e - 0) ≤ n
+start_halved s e n h = let z : s - s ≡ 0 = omega arith in rw z (omega arith)
+
+pub start_cost : (s n : ℕ) → 2 ^ (s - s) ≤ 2 * n + 1
+start_cost s n = let z : s - s ≡ 0 = omega arith in rw z (omega arith)
+
+pub same_cost : (s o k a n : ℕ) → k ≡ a → 2 ^ (s - o) ≤ 2 * n + 1 → 2 ^ (s - o - (k - a)) ≤ 2 * n + 1
+same_cost s o k a n e h = let z : s - o - (k - a) ≡ s - o = omega arith in rw z h
+
+pub more_cost : (s t o k a n : ℕ) → t ≡ s + 1 → a ≤ k → o + (k - a) ≤ s → 2 ^ (s - o - (k - a)) ≤ 2 * n + 1 → 2 ^ (t - o - (k + 1 - a)) ≤ 2 * n + 1
+more_cost s t o k a n e l r h = let z : t - o - (k + 1 - a) ≡ s - o - (k - a) = omega arith in rw z h
+
+pub all_cost : (o s t b j n : ℕ) → t ≡ s + 1 → o + j ≤ s → j ≤ b → 2 ^ (s - o - j) ≤ 2 * n + 1 → (d : ℕ) → n < 2 ^ d → t ≤ o + (2 * (b + d) + 4)
+all_cost o s t b j n e r l h d m = omega (arith, few_steps (s - o - j) d n h m)
+
+-- ---- what was appended so far
+
+pub none_found : (old answers : List ℕ) (k a : ℕ) → k ≡ a → old ≡ old ++ take (k - a) answers
+none_found old answers k a e = let z : k - a ≡ 0 = omega arith in rw z (sym (append-nil old))
+
+pub more_found : (old out new answers : List ℕ) (k a y : ℕ) → a ≤ k → slice_get answers (k - a) ≡ Some y → out ≡ old ++ take (k - a) answers → new ≡ out ++ y ∷ [] → new ≡ old ++ take (k + 1 - a) answers
+more_found old out new answers k a y l h e n =
+    let z : k + 1 - a ≡ suc (k - a) = omega arith in
+    n ∙ ap (λ v. v ++ y ∷ []) e ∙ append_assoc old (take (k - a) answers) (y ∷ []) ∙ ap (λ v. old ++ v) (sym (one_taken answers (k - a) y h) ∙ sym (ap (λ m. take m answers) z))
+
+pub all_found : (old out answers : List ℕ) (j : ℕ) → length answers ≤ j → out ≡ old ++ take j answers → out ≡ old ++ answers
+all_found old out answers j l e = e ∙ ap (λ v. old ++ v) (take_all j answers l)
+
+pub front_found : (old out new answers : List ℕ) (j : ℕ) → out ≡ old ++ take j answers → new ≡ out → GrowsByFront old new answers
+front_found old out new answers j e n = (take j answers, n ∙ e, (drop j answers, sym (take-append-drop j answers)))
+
+-- the next row to be appended, of all before the end
+pub next_answer : (doc : Document) (x e k y : ℕ) (name : List ℕ) → IsDocument doc → IsEnd doc x e → length (named_before doc name (x + 1)) ≤ k → Some y ≡ slice_get (named_before doc name e) k
+    → slice_get (named_below doc x name) (k - length (named_before doc name (x + 1))) ≡ Some y
+next_answer doc x e k y name d end l h = sym (behind (named_before doc name (x + 1)) (named_below doc x name) k l) ∙ ap (λ v. slice_get v k) (sym (before_end doc x e name d end)) ∙ sym h
+
+pub no_answer : (doc : Document) (x e k : ℕ) (name : List ℕ) → IsDocument doc → IsEnd doc x e → None ≡ slice_get (named_before doc name e) k
+    → length (named_below doc x name) ≤ k - length (named_before doc name (x + 1))
+no_answer doc x e k name d end h =
+    omega (arith, past_none _ k (sym h), ap (λ (v : List ℕ). length v) (before_end doc x e name d end), length-append (named_before doc name (x + 1)) (named_below doc x name))
 
 -- ---- the axes
 
@@ -164,5 +205,5 @@ with_self doc x name d l =
     ∙ ap (λ v. v ++ filter c (range_with_len (x + 1) (n - (x + 1)))) (single c x (x + 1) (omega arith) (λ z a b. absurd (omega (arith, a, b)))
     ∙ ap (λ b. cond (b && is_named doc name x) (x ∷ []) []) (or_left (eqb x x) (not (is_attribute doc x) && below doc x x) (eq-eqb x x refl)))
     ∙ ap (λ v. cond (is_named doc name x) (x ∷ []) [] ++ v)
-      (same_within c q (n - (x + 1)) (x + 1) (λ y a b. ap (λ v. (v || (not (is_attribute doc y) && below doc x y)) && is_named doc name y) (ne_eqb y x (λ s. omega (arith, a, s))) ∙ kinds (row doc y).kind (below doc x y) _)
-      ∙ sym (upto q (x + 1) n (omega arith) ∙ ap (λ v. v ++ filter q (range_with_len (x + 1) (n - (x + 1)))) (upto_none q (x + 1) (λ z k. and_right _ _ (not_up doc x z (small doc d) (omega (arith, k)))))))
+    (same_within c q (n - (x + 1)) (x + 1) (λ y a b. ap (λ v. (v || (not (is_attribute doc y) && below doc x y)) && is_named doc name y) (ne_eqb y x (λ s. omega (arith, a, s))) ∙ kinds (row doc y).kind (below doc x y) _)
+    ∙ sym (upto q (x + 1) n (omega arith) ∙ ap (λ v. v ++ filter q (range_with_len (x + 1) (n - (x + 1)))) (upto_none q (x + 1) (λ z k. and_right _ _ (not_up doc x z (small doc d) (omega (arith, k)))))))

@@ -16,7 +16,7 @@ use doc_model::{Axes, Axis, Kind, NodeTest, Tree, walk_count, walk_into};
 use std::alloc::Global;
 use std::marker::Brand;
 use std::sync::ledger::{Blank, Ledger};
-use text_base::NoMemory;
+use text_base::{NoMemory, Txt};
 
 /// A document with tables over it, so that elements are looked up by name and by attribute `id`.
 #[derive(Drop)]
@@ -86,17 +86,25 @@ impl<T: Tree> Indexed<T> {
         ensures one { steps.new ≡ steps.old + 1 }
     {
         steps.tick();
-        self.names.under(name).get(k as usize).copied()
+        at(self.names.under(name), k as usize)
     }
 
     /// The row at place `k`, from 0, of the elements of this name before row `end`.
-    fn row_before<L: Ledger>(&self, name: &str, end: u32, k: u32, steps: &mut Steps<L>) -> Option<u32>
+    fn row_before<L: Ledger>(
+        &self,
+        name: &str,
+        end: u32,
+        k: u32,
+        steps: &mut Steps<L>,
+    ) -> Option<u32>
         requires { end ≤ length (T.document self.now.tree) }
         ensures row { result ≡ slice_get (named_before (T.document self.now.tree) (chars name.now) end) k }
         ensures one { steps.new ≡ steps.old + 1 }
     {
-        let y = self.row_at(name, k, steps)?;
-        if y < end { Some(y) } else { None }
+        match self.row_at(name, k, steps) {
+            Some(y) => { if y < end { Some(y) } else { None } }
+            None => None,
+        }
     }
 
     /// How many elements of this name stand before row `end`, by halving.
@@ -143,11 +151,11 @@ impl<T: Tree> Indexed<T> {
         Ok(())
     }
 
-    /// The same, by a counter of its own.
+    /// The same, with a counter over the blank ledger.
     fn fill_below<L: Ledger>(
         &self,
         x: u32,
-        name: &str,
+        name: &Txt,
         out: &mut Vec<u32>,
         blank: Blank,
     ) -> Result<(), NoMemory>
@@ -155,11 +163,20 @@ impl<T: Tree> Indexed<T> {
         requires name { blank.name ≡ L.name }
         requires parts { blank.parts ≡ L.parts }
         requires some { 0 < L.parts }
-        ensures ok { OnOk result (out.new.items ≡ out.old.items ++ spec.named_below (T.document self.now.tree) x (chars name.now)) }
-        ensures err { OnErr result (GrowsByFront out.old.items out.new.items (spec.named_below (T.document self.now.tree) x (chars name.now))) }
+        ensures ok { OnOk result (out.new.items ≡ out.old.items ++ spec.named_below (T.document self.now.tree) x name.now) }
+        ensures err { OnErr result (GrowsByFront out.old.items out.new.items (spec.named_below (T.document self.now.tree) x name.now)) }
     {
         let mut steps = Steps::<L>::new(blank);
-        self.named_below(x, name, out, &mut steps)
+        self.named_below(x, name.as_str(), out, &mut steps)
+    }
+
+    /// The same, for a caller that counts nothing.
+    fn below_into(&self, x: u32, name: &Txt, out: &mut Vec<u32>) -> Result<(), NoMemory>
+        requires { x < length (T.document self.now.tree) }
+        ensures ok { OnOk result (out.new.items ≡ out.old.items ++ spec.named_below (T.document self.now.tree) x name.now) }
+        ensures err { OnErr result (GrowsByFront out.old.items out.new.items (spec.named_below (T.document self.now.tree) x name.now)) }
+    {
+        self.fill_below::<Brand>(x, name, out, Blank::new(1))
     }
 
     /// The row, if it is an element of this name.
@@ -173,6 +190,14 @@ impl<T: Tree> Indexed<T> {
         }
         Ok(())
     }
+}
+
+/// What stands at a place of the list.
+#[tactic(auto, using(crate::proofs::Places::none_past))]
+fn at(rows: &[u32], k: usize) -> Option<u32>
+    ensures { result ≡ slice_get rows.now k }
+{
+    if k < rows.len() { Some(rows[k]) } else { None }
 }
 
 /// Whether the row is an element of this name.
@@ -194,16 +219,17 @@ impl<T: Tree> Axes for Indexed<T> {
         test: &NodeTest,
         out: &mut Vec<u32>,
     ) -> Result<(), NoMemory> {
-        match (axis, test) {
-            (Axis::Descendant, NodeTest::Name(name)) => {
-                self.fill_below::<Brand>(x, name.as_str(), out, Blank::new(1))
+        if let NodeTest::Name(name) = test {
+            match axis {
+                Axis::Descendant => return self.below_into(x, name, out),
+                Axis::DescendantOrSelf => {
+                    self.push_named(x, name.as_str(), out)?;
+                    return self.below_into(x, name, out);
+                }
+                _ => {}
             }
-            (Axis::DescendantOrSelf, NodeTest::Name(name)) => {
-                self.push_named(x, name.as_str(), out)?;
-                self.fill_below::<Brand>(x, name.as_str(), out, Blank::new(1))
-            }
-            _ => walk_into(&self.tree, x, axis, test, out),
         }
+        walk_into(&self.tree, x, axis, test, out)
     }
 
     fn axis_count(&self, x: u32, axis: Axis, test: &NodeTest) -> u32 {
