@@ -1,11 +1,50 @@
 //! Axes that are walked.
-ghost use Rattle.std.specs.Prelude.{◌≡◌, ◌<◌, ℕ, [], length};
+ghost use Rattle.std.specs.Prelude.{◌≡◌, ◌<◌, ℕ, [], length, OnOk, OnErr};
+ghost use Rattle.doc_model.specs.Axes.{axis_list};
+ghost use Rattle.doc_model.specs.RowLists.{IsFront};
 
 use crate::axes::Axes;
 use crate::tree::Tree;
 use crate::walks::{across_count, across_into, is_reverse, is_upward, up_count, up_into};
 use crate::{Axis, Kind, NodeTest};
 use text_base::NoMemory;
+
+/// The rows on the axis of `x` that pass the test, nearest first, as `Axes::axis_into` gives them.
+pub fn walk_into<T: Tree>(
+    tree: &T,
+    x: u32,
+    axis: Axis,
+    test: &NodeTest,
+    out: &mut Vec<u32>,
+) -> Result<(), NoMemory>
+    requires row { x < length (T.document tree.now) }
+    requires empty { out.old.items ≡ [] }
+    ensures ok { OnOk result (out.new.items ≡ axis_list (T.document tree.now) x axis test.now) }
+    ensures err { OnErr result (IsFront out.new.items (axis_list (T.document tree.now) x axis test.now)) }
+{
+    if is_upward(axis) {
+        return up_into(tree, x, axis, test, out);
+    }
+    let walked = across_into(tree, x, axis, test, out);
+    if is_reverse(axis) {
+        match walked {
+            Ok(()) => out.reverse(),
+            Err(_) => out.clear(),
+        }
+    }
+    walked
+}
+
+/// How many rows these are. It takes no memory.
+pub fn walk_count<T: Tree>(tree: &T, x: u32, axis: Axis, test: &NodeTest) -> u32
+    requires { x < length (T.document tree.now) }
+    ensures { result ≡ length (axis_list (T.document tree.now) x axis test.now) }
+{
+    if is_upward(axis) {
+        return up_count(tree, x, axis, test);
+    }
+    across_count(tree, x, axis, test)
+}
 
 /// A document whose axes are walked, row by row, over what may be on the axis.
 #[derive(Drop)]
@@ -62,23 +101,10 @@ impl<T: Tree> Axes for Plain<T> {
         test: &NodeTest,
         out: &mut Vec<u32>,
     ) -> Result<(), NoMemory> {
-        if is_upward(axis) {
-            return up_into(&self.tree, x, axis, test, out);
-        }
-        let walked = across_into(&self.tree, x, axis, test, out);
-        if is_reverse(axis) {
-            match walked {
-                Ok(()) => out.reverse(),
-                Err(_) => out.clear(),
-            }
-        }
-        walked
+        walk_into(&self.tree, x, axis, test, out)
     }
 
     fn axis_count(&self, x: u32, axis: Axis, test: &NodeTest) -> u32 {
-        if is_upward(axis) {
-            return up_count(&self.tree, x, axis, test);
-        }
-        across_count(&self.tree, x, axis, test)
+        walk_count(&self.tree, x, axis, test)
     }
 }

@@ -1,0 +1,5 @@
+mod Axes
+mod Filled
+mod Firsts
+pub mod Places
+mod Texts

@@ -1,0 +1,26 @@
+-- Tables over a document, as far as they are filled. A text is its bytes in them, and its characters in a document.
+use Rattle.std.specs.Prelude.{◌≡◌, ℕ, List, [], Option}
+use Rattle.std.specs.List.{range_with_len, find}
+use Rattle.std.specs.Option.{option_map, option_map_or}
+use Rattle.std.specs.Str.{chars, IsUtf8}
+use Rattle.indexmap.specs.IndexMap.{get_by_text}
+use Rattle.doc_model.specs.Document.{Document, row}
+use Rattle.step_index.specs.declared.names.Names.{Names}
+use Rattle.step_index.specs.declared.ids.Ids.{Ids}
+use Rattle.step_index.specs.Named.{named_before, gives_id}
+
+-- the rows under a name
+abbrev pub rows_under : Names → List ℕ → List ℕ
+rows_under t q = option_map_or (λ g. g.items) (get_by_text t.lists q) []
+
+-- under each name stand the elements of that name among the rows before b
+abbrev pub HasNames : Document → Names → ℕ → Type 0
+HasNames doc t b = (q : List ℕ) → IsUtf8 q → rows_under t q ≡ named_before doc (chars q) b
+
+-- the row under a word
+abbrev pub row_under : Ids → List ℕ → Option ℕ
+row_under t q = get_by_text t.rows q
+
+-- under each word stands the element of the first attribute `id` of that value among the rows before b
+abbrev pub HasIds : Document → Ids → ℕ → Type 0
+HasIds doc t b = (q : List ℕ) → IsUtf8 q → row_under t q ≡ option_map (λ z. (row doc z).parent) (find (gives_id doc (chars q)) (range_with_len 0 b))

@@ -1,0 +1,238 @@
+//! Axes that are looked up.
+ghost use Rattle.std.specs.Prelude.{◌≡◌, ◌<◌, ◌≤◌, ◌+◌, ◌-◌, ◌*◌, ◌^◌, ◌++◌, ℕ, [], ◌∷◌, if◌then◌else◌, length, slice_get, OnOk, OnErr, IfOk};
+ghost use Rattle.std.specs.List.{find};
+ghost use Rattle.std.specs.Str.{chars};
+ghost use Rattle.doc_model.specs.Document.{rows};
+ghost use Rattle.doc_model.specs.Axes.{axis_list};
+ghost use Rattle.doc_model.specs.RowLists.{IsFront};
+ghost use Rattle.step_index.specs.Named.{has_id, is_named, named, named_before, GrowsByFront};
+ghost use Rattle.step_index.specs.Named as spec;
+ghost use Rattle.step_index.specs.Tables.{HasNames, HasIds};
+
+use crate::ids::Ids;
+use crate::names::Names;
+use crate::steps::Steps;
+use doc_model::{Axes, Axis, Kind, NodeTest, Tree, walk_count, walk_into};
+use std::alloc::Global;
+use std::marker::Brand;
+use std::sync::ledger::{Blank, Ledger};
+use text_base::{NoMemory, Txt};
+
+/// A document with tables over it, so that elements are looked up by name and by attribute `id`.
+#[derive(Drop)]
+pub struct Indexed<T: Tree> {
+    tree: T,
+    names: Names,
+    ids: Ids,
+    ghost named: { HasNames (T.document tree) names (length (T.document tree)) },
+    ghost identified: { HasIds (T.document tree) ids (length (T.document tree)) },
+}
+
+impl<T: Tree + Drop> Indexed<T> {
+    /// Keeps the tree's document and makes the tables.
+    pub fn new(alloc: Global, tree: T) -> Result<Indexed<T>, NoMemory>
+        ensures { IfOk result (λ t. ⟦<Indexed<T> as Tree>⟧.document t ≡ T.document tree) }
+    {
+        let names = Names::of(alloc, &tree)?;
+        let ids = Ids::of(alloc, &tree)?;
+        Ok(Indexed { tree, names, ids })
+    }
+}
+
+impl<T: Tree> Tree for Indexed<T> {
+    ghost document = { λ t. T.document t.tree };
+
+    ghost is_document = { λ t. T.is_document t.tree };
+
+    ghost is_small = { λ t. T.is_small t.tree };
+
+    fn len(&self) -> u32 {
+        self.tree.len()
+    }
+
+    fn kind(&self, i: u32) -> Kind {
+        self.tree.kind(i)
+    }
+
+    fn name(&self, i: u32) -> &str {
+        self.tree.name(i)
+    }
+
+    fn text(&self, i: u32) -> &str {
+        self.tree.text(i)
+    }
+
+    fn parent(&self, i: u32) -> u32 {
+        self.tree.parent(i)
+    }
+
+    fn end(&self, i: u32) -> u32 {
+        self.tree.end(i)
+    }
+}
+
+impl<T: Tree> Indexed<T> {
+    /// The first element in document order whose attribute `id` is the word. It takes no memory.
+    pub fn first_id(&self, word: &str) -> Option<u32>
+        ensures { result ≡ find (has_id (T.document self.now.tree) (chars word.now)) (rows (T.document self.now.tree)) }
+    {
+        self.ids.under(word)
+    }
+
+    /// The row at place `k`, from 0, of the elements of this name in document order. This is one step, and it takes
+    /// no memory.
+    pub fn row_at<L: Ledger>(&self, name: &str, k: u32, steps: &mut Steps<L>) -> Option<u32>
+        ensures row { result ≡ slice_get (named (T.document self.now.tree) (chars name.now)) k }
+        ensures one { steps.new ≡ steps.old + 1 }
+    {
+        steps.tick();
+        at(self.names.under(name), k as usize)
+    }
+
+    /// The row at place `k`, from 0, of the elements of this name before row `end`.
+    fn row_before<L: Ledger>(
+        &self,
+        name: &str,
+        end: u32,
+        k: u32,
+        steps: &mut Steps<L>,
+    ) -> Option<u32>
+        requires { end ≤ length (T.document self.now.tree) }
+        ensures row { result ≡ slice_get (named_before (T.document self.now.tree) (chars name.now) end) k }
+        ensures one { steps.new ≡ steps.old + 1 }
+    {
+        match self.row_at(name, k, steps) {
+            Some(y) => { if y < end { Some(y) } else { None } }
+            None => None,
+        }
+    }
+
+    /// How many elements of this name stand before row `end`, by halving.
+    fn count_before<L: Ledger>(&self, name: &str, end: u32, steps: &mut Steps<L>) -> u32
+        requires { end ≤ length (T.document self.now.tree) }
+        ensures count { result ≡ length (named_before (T.document self.now.tree) (chars name.now) end) }
+        ensures rose { steps.old ≤ steps.new }
+        ensures cost { 2 ^ (steps.new - steps.old) ≤ 2 * length (T.document self.now.tree) + 1 }
+    {
+        let mut low = 0;
+        let mut high = end;
+        while low < high {
+            let middle = low + (high - low) / 2;
+            match self.row_before(name, end, middle, steps) {
+                Some(_) => low = middle + 1,
+                None => high = middle,
+            }
+        }
+        low
+    }
+
+    /// Appends the elements of this name below `x`, in document order. The steps are at most twice the answers and
+    /// the binary digits of the number of rows, and 4. Where no memory is found, `out` grew by the first answers.
+    pub fn named_below<L: Ledger>(
+        &self,
+        x: u32,
+        name: &str,
+        out: &mut Vec<u32>,
+        steps: &mut Steps<L>,
+    ) -> Result<(), NoMemory>
+        requires { x < length (T.document self.now.tree) }
+        ensures ok { OnOk result (out.new.items ≡ out.old.items ++ spec.named_below (T.document self.now.tree) x (chars name.now)) }
+        ensures err { OnErr result (GrowsByFront out.old.items out.new.items (spec.named_below (T.document self.now.tree) x (chars name.now))) }
+        ensures rose { steps.old ≤ steps.new }
+        ensures cost { (digits : ℕ) → length (T.document self.now.tree) < 2 ^ digits
+            → steps.new ≤ steps.old + (2 * (length (spec.named_below (T.document self.now.tree) x (chars name.now)) + digits) + 4) }
+    {
+        let end = self.tree.end(x);
+        let mut k = self.count_before(name, x + 1, steps);
+        while let Some(y) = self.row_before(name, end, k, steps) {
+            out.push(y)?;
+            k += 1;
+        }
+        Ok(())
+    }
+
+    /// The same, with a counter over the blank ledger.
+    fn fill_below<L: Ledger>(
+        &self,
+        x: u32,
+        name: &Txt,
+        out: &mut Vec<u32>,
+        blank: Blank,
+    ) -> Result<(), NoMemory>
+        requires row { x < length (T.document self.now.tree) }
+        requires name { blank.name ≡ L.name }
+        requires parts { blank.parts ≡ L.parts }
+        requires some { 0 < L.parts }
+        ensures ok { OnOk result (out.new.items ≡ out.old.items ++ spec.named_below (T.document self.now.tree) x name.now) }
+        ensures err { OnErr result (GrowsByFront out.old.items out.new.items (spec.named_below (T.document self.now.tree) x name.now)) }
+    {
+        let mut steps = Steps::<L>::new(blank);
+        self.named_below(x, name.as_str(), out, &mut steps)
+    }
+
+    /// The same, for a caller that counts nothing.
+    fn below_into(&self, x: u32, name: &Txt, out: &mut Vec<u32>) -> Result<(), NoMemory>
+        requires { x < length (T.document self.now.tree) }
+        ensures ok { OnOk result (out.new.items ≡ out.old.items ++ spec.named_below (T.document self.now.tree) x name.now) }
+        ensures err { OnErr result (GrowsByFront out.old.items out.new.items (spec.named_below (T.document self.now.tree) x name.now)) }
+    {
+        self.fill_below::<Brand>(x, name, out, Blank::new(1))
+    }
+
+    /// The row, if it is an element of this name.
+    fn push_named(&self, x: u32, name: &str, out: &mut Vec<u32>) -> Result<(), NoMemory>
+        requires { x < length (T.document self.now.tree) }
+        ensures ok { OnOk result (out.new.items ≡ out.old.items ++ (if is_named (T.document self.now.tree) (chars name.now) x then x ∷ [] else [])) }
+        ensures err { OnErr result (out.new.items ≡ out.old.items) }
+    {
+        if is_named(&self.tree, x, name) {
+            out.push(x)?;
+        }
+        Ok(())
+    }
+}
+
+/// What stands at a place of the list.
+#[tactic(auto, using(crate::proofs::Places::none_past))]
+fn at(rows: &[u32], k: usize) -> Option<u32>
+    ensures { result ≡ slice_get rows.now k }
+{
+    if k < rows.len() { Some(rows[k]) } else { None }
+}
+
+/// Whether the row is an element of this name.
+fn is_named<T: Tree>(tree: &T, y: u32, name: &str) -> bool
+    requires { y < length (T.document tree.now) }
+    ensures { result ≡ is_named (T.document tree.now) (chars name.now) y }
+{
+    match tree.kind(y) {
+        Kind::Element => tree.name(y) == name,
+        _ => false,
+    }
+}
+
+impl<T: Tree> Axes for Indexed<T> {
+    fn axis_into(
+        &self,
+        x: u32,
+        axis: Axis,
+        test: &NodeTest,
+        out: &mut Vec<u32>,
+    ) -> Result<(), NoMemory> {
+        if let NodeTest::Name(name) = test {
+            match axis {
+                Axis::Descendant => return self.below_into(x, name, out),
+                Axis::DescendantOrSelf => {
+                    self.push_named(x, name.as_str(), out)?;
+                    return self.below_into(x, name, out);
+                }
+                _ => {}
+            }
+        }
+        walk_into(&self.tree, x, axis, test, out)
+    }
+
+    fn axis_count(&self, x: u32, axis: Axis, test: &NodeTest) -> u32 {
+        walk_count(&self.tree, x, axis, test)
+    }
+}

@@ -1,0 +1,10 @@
+//! Tables over a tree: elements by name and by attribute `id`.
+#![tactic(auto)]
+
+mod ids;
+mod indexed;
+mod names;
+mod steps;
+
+pub use indexed::Indexed;
+pub use steps::Steps;
