@@ -66,6 +66,7 @@ impl Pages for MemPages {
         ensures lacking { Lacks (told_by self.old) name.now →
             (faults_of self.new ≡ faults_of self.old) × IsErr result }
         ensures memory { IsErrOf result BeginFault.Memory → faults_of self.new ≡ faults_of self.old }
+        ensures uncounted { OnOk result (faults_of self.new ≡ faults_of self.old) }
         ensures opened { OnOk result (Opens (told_by self.old) name.now (left_of self.new)) }
         ensures refused { OnErr result (IsDone (left_of self.new)) }
 
@@ -76,7 +77,6 @@ impl Pages for MemPages {
         ensures no_memory { ¬ IsErrOf result BeginFault.Memory }
         ensures counted { OnErr result
             (Lacks (told_by self.old) name.now ⊎ (faults_of self.new ≡ next_count (faults_of self.old))) }
-        ensures uncounted { OnOk result (faults_of self.new ≡ faults_of self.old) }
         ensures calls { CallsOnce self.old self.new }
     {
         self.calls = self.calls.saturating_add(1);
@@ -97,6 +97,7 @@ impl Pages for MemPages {
         ensures begun { begun_of self.new ≡ begun_of self.old }
         ensures never_falls { faults_of self.old ≤ faults_of self.new }
         ensures failed { OnErr result (Rose (faults_of self.old) (faults_of self.new)) }
+        ensures uncounted { OnOk result (faults_of self.new ≡ faults_of self.old) }
         ensures unread { OnErr result (left_of self.new ≡ left_of self.old) }
         ensures within { IfOk result (λ n. n ≤ length into.new) }
         ensures bytes { IfOk result (λ n. IfSome (left_of self.old) (λ bytes.
@@ -109,7 +110,6 @@ impl Pages for MemPages {
         // bytes as it may.
         ensures fails { IsErr result ↔ Contains (fails_of self.old) (number_of self.old) }
         ensures counted { OnErr result (faults_of self.new ≡ next_count (faults_of self.old)) }
-        ensures uncounted { OnOk result (faults_of self.new ≡ faults_of self.old) }
         ensures most { IfOk result (λ n. IfSome (left_of self.old) (λ bytes.
             n ≡ min (min (most_of self.old) (length into.old)) (length bytes))) }
         ensures calls { CallsOnce self.old self.new }

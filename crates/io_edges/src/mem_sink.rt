@@ -69,6 +69,7 @@ impl Sink for MemSink {
     fn write(&mut self, bytes: &[u8]) -> Result<usize, Failed>
         ensures never_falls { faults_of self.old ≤ faults_of self.new }
         ensures failed { OnErr result (Rose (faults_of self.old) (faults_of self.new)) }
+        ensures uncounted { OnOk result (faults_of self.new ≡ faults_of self.old) }
         ensures untaken { OnErr result (taken_by self.new ≡ taken_by self.old) }
         ensures within { IfOk result (λ n. n ≤ length bytes.now) }
         ensures some { IfOk result (λ n. 0 < length bytes.now → 0 < n) }
@@ -79,7 +80,6 @@ impl Sink for MemSink {
         ensures fails { IsErr result ↔ (Contains (fails_of self.old) (number_of self.old)
             ⊎ ((0 < length bytes.now) × (free_room self.old ≡ 0))) }
         ensures counted { OnErr result (faults_of self.new ≡ next_count (faults_of self.old)) }
-        ensures uncounted { OnOk result (faults_of self.new ≡ faults_of self.old) }
         ensures takes { IfOk result (λ n.
             n ≡ min (min (most_of self.old) (free_room self.old)) (length bytes.now)) }
         ensures writes { WritesOnce self.old self.new }

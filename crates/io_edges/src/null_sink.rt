@@ -1,4 +1,4 @@
-ghost use Rattle.std.specs.Prelude.{◌≡◌, ◌≤◌, ◌<◌, None, length, take, IfOk, OnErr};
+ghost use Rattle.std.specs.Prelude.{◌≡◌, ◌≤◌, ◌<◌, None, length, take, IfOk, OnOk, OnErr};
 ghost use Rattle.io_edges.specs.Counts.{Rose};
 ghost use Rattle.io_edges.specs.Sink.{grown};
 
@@ -27,6 +27,8 @@ impl Sink for NullSink {
         ensures never_falls { ⟦<NullSink as Sink>⟧.faults self.old ≤ ⟦<NullSink as Sink>⟧.faults self.new }
         ensures failed { OnErr result
             (Rose (⟦<NullSink as Sink>⟧.faults self.old) (⟦<NullSink as Sink>⟧.faults self.new)) }
+        ensures uncounted { OnOk result
+            (⟦<NullSink as Sink>⟧.faults self.new ≡ ⟦<NullSink as Sink>⟧.faults self.old) }
         ensures untaken { OnErr result
             (⟦<NullSink as Sink>⟧.taken self.new ≡ ⟦<NullSink as Sink>⟧.taken self.old) }
         ensures within { IfOk result (λ n. n ≤ length bytes.now) }

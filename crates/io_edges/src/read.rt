@@ -39,6 +39,8 @@ pub fn read_page<P: Pages>(alloc: Global, pages: &mut P, name: &str) -> Result<V
     ensures never_falls { P.faults pages.old ≤ P.faults pages.new }
     ensures fault { IsErrOf result ReadEnd.Fault →
         Rose (P.faults pages.old) (P.faults pages.new) ⊎ Lacks (P.told pages.old) name.now }
+    ensures uncounted { (¬ IsErrOf result ReadEnd.Fault) ⊎ Lacks (P.told pages.old) name.now →
+        P.faults pages.new ≡ P.faults pages.old }
     ensures lacking { Lacks (P.told pages.old) name.now →
         IsErrOf result ReadEnd.Fault ⊎ IsErrOf result ReadEnd.Memory }
     ensures too_long { IsErrOf result ReadEnd.TooLong →

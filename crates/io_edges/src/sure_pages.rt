@@ -57,6 +57,7 @@ impl Pages for SurePages {
         ensures lacking { Lacks (told_by self.old) name.now →
             (faults_of self.new ≡ faults_of self.old) × IsErr result }
         ensures memory { IsErrOf result BeginFault.Memory → faults_of self.new ≡ faults_of self.old }
+        ensures uncounted { OnOk result (faults_of self.new ≡ faults_of self.old) }
         ensures opened { OnOk result (Opens (told_by self.old) name.now (left_of self.new)) }
         ensures refused { OnErr result (IsDone (left_of self.new)) }
 
@@ -78,6 +79,7 @@ impl Pages for SurePages {
         ensures begun { begun_of self.new ≡ begun_of self.old }
         ensures never_falls { faults_of self.old ≤ faults_of self.new }
         ensures failed { OnErr result (Rose (faults_of self.old) (faults_of self.new)) }
+        ensures uncounted { OnOk result (faults_of self.new ≡ faults_of self.old) }
         ensures unread { OnErr result (left_of self.new ≡ left_of self.old) }
         ensures within { IfOk result (λ n. n ≤ length into.new) }
         ensures bytes { IfOk result (λ n. IfSome (left_of self.old) (λ bytes.
