@@ -7,9 +7,9 @@ ghost use Rattle.doc_model.specs.Document.{is_attribute, rows};
 ghost use Rattle.css_meaning.specs.Attributes as spec;
 ghost use Rattle.css_meaning.specs.Names.{folded};
 
+use crate::attribute_values::value_passes;
 use crate::names::is_named;
 use crate::selector::{Dialect, Op};
-use crate::values::value_passes;
 use doc_model::{Kind, Tree};
 
 fn is_attribute<T: Tree>(tree: &T, z: u32) -> bool

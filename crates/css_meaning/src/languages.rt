@@ -4,9 +4,9 @@ ghost use Rattle.std.specs.Str.{chars};
 ghost use Rattle.css_meaning.specs.Language as spec;
 ghost use Rattle.css_meaning.specs.Nearest.{says};
 
+use crate::attribute_values::is_language;
 use crate::attributes::attribute_named;
 use crate::selector::Dialect;
-use crate::values::is_language;
 use doc_model::Tree;
 
 /// The name of the attribute that names a language.

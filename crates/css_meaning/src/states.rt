@@ -8,7 +8,7 @@ ghost use Rattle.css_meaning.specs.Simples as spec;
 
 use crate::attributes::{attribute_named, has_attribute};
 use crate::selector::Dialect;
-use crate::values::is_text;
+use crate::texts::is_text;
 use doc_model::Tree;
 
 fn links(name: &str) -> bool
