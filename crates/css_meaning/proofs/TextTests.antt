@@ -1,5 +1,5 @@
 -- What std's tests on bytes say, in the words of the tests on texts.
-use Rattle.std.proofs.Common.{◌≡◌, ℕ, zero, suc, ◌+◌, ◌-◌, ◌<◌, ◌≤◌, Bool, true, false, cond, eqb, ltb, leb, List, [], ◌∷◌, ◌++◌, length, drop, get_or, map, refl, sym, ◌∙◌, ap, arith, inl, inr, lt-ltb}
+use Rattle.std.proofs.Common.{◌≡◌, ℕ, zero, suc, ◌+◌, ◌-◌, ◌<◌, ◌≤◌, Bool, true, false, cond, eqb, ltb, leb, List, [], ◌∷◌, ◌++◌, length, take, drop, get_or, map, refl, sym, ◌∙◌, ap, arith, inl, inr, lt-ltb, zero-add}
 use Rattle.std.specs.Prelude.{◌==◌, ◌&&◌, ◌||◌, codes, ◌↔◌}
 use Rattle.std.specs.List as list
 use Rattle.std.specs.Str.{bytes_eq}
@@ -7,8 +7,10 @@ use Rattle.std.specs.Char.{to_ascii_lowercase}
 use Rattle.std.specs.Cmp.Lexicographic.{pointwise}
 use Rattle.std.proofs.lemmas.Bool.{eqb-true, eq-eqb, and_right, or_from, cases_lt, ltb-true}
 use Rattle.std.proofs.lemmas.Bool.Decides.{nat_tests}
+use Rattle.std.proofs.lemmas.List.{drop_more}
+use Rattle.std.proofs.lemmas.Slice.Eq.{bytes_eq-Decides}
 use Rattle.text_base.specs.Strings.{starts_with, ends_with, contains, is_empty}
-use Rattle.text_base.specs.Text.{first_place, begins_with}
+use Rattle.text_base.specs.Text.{first_place, find_where, begins_with}
 use Rattle.css_meaning.specs.Attributes.{dash_test}
 use Rattle.css_meaning.proofs.ByteParts.{bool_same}
 
@@ -125,3 +127,39 @@ dash_at : (x : List ℕ) (n : ℕ) → (get_or (map to_ascii_lowercase x) n 0 ==
 dash_at [] n = refl
 dash_at (c ∷ x) zero = dash_kept c
 dash_at (c ∷ x) (suc n) = dash_at x n
+
+-- one text and another in lower case, from a place on
+pub one_more : (x v : List ℕ) (i : ℕ) → i < length x → i < length v
+    → bytes_eq (drop i x) (map to_ascii_lowercase (drop i v)) ≡ ((get_or x i 0 == to_ascii_lowercase (get_or v i 0)) && bytes_eq (drop (i + 1) x) (map to_ascii_lowercase (drop (i + 1) v)))
+one_more x v i l m = ap (λ t. bytes_eq t (map to_ascii_lowercase (drop i v))) (drop_more x i 0 l) ∙ ap (λ t. bytes_eq (get_or x i 0 ∷ drop (i + 1) x) (map to_ascii_lowercase t)) (drop_more v i 0 m)
+
+-- a beginning in lower case
+pub lower_front : (v x : List ℕ) → bytes_eq (map to_ascii_lowercase (take (length v) x)) (map to_ascii_lowercase v) ≡ starts_with (map to_ascii_lowercase x) (map to_ascii_lowercase v)
+lower_front [] x = refl
+lower_front (b ∷ v) [] = refl
+lower_front (b ∷ v) (a ∷ x) = ap (λ t. (to_ascii_lowercase a == to_ascii_lowercase b) && t) (lower_front v x)
+
+pub short_start : (x v : List ℕ) → length x < length v → starts_with (map to_ascii_lowercase x) (map to_ascii_lowercase v) ≡ false
+short_start x [] h = absurd (omega arith)
+short_start [] (b ∷ v) h = refl
+short_start (a ∷ x) (b ∷ v) h = and_right (to_ascii_lowercase a == to_ascii_lowercase b) _ (short_start x v (omega arith))
+
+pub too_long : (m n : ℕ) → n < m → leb m n ≡ false
+too_long m n h = grind (arith, nat_tests)
+
+pub decides_same : (r : Bool) (x v : List ℕ) → ((r ≡ true) ↔ (x ≡ v)) → r ≡ bytes_eq x v
+decides_same r x v h = bool_same r (bytes_eq x v) (λ e. (bytes_eq-Decides x v).1 (h.0 e)) (λ e. h.1 ((bytes_eq-Decides x v).0 e))
+
+-- the length of a text tells whether it is empty
+pub none_empty : (x : List ℕ) → (length x == 0) ≡ is_empty x
+none_empty [] = refl
+none_empty (c ∷ x) = grind (arith, nat_tests)
+
+-- the first place of a part
+pub part_found : (x v : List ℕ) (at : ℕ) → is_empty v ≡ false → at ≡ find_where (begins_with v) x 0 → ltb at (length x) ≡ contains x v
+part_found x [] at h e = absurd (let no : true ≡ false = h in cc)
+part_found x (b ∷ v) at h e = ap (λ k. ltb k (length x)) (e ∙ zero-add (first_place (begins_with (b ∷ v)) x)) ∙ found_part x b v
+
+pub empty_part : (x v : List ℕ) → is_empty v ≡ true → contains x v ≡ true
+empty_part x [] h = no_part x
+empty_part x (b ∷ v) h = absurd (let no : false ≡ true = h in cc)
