@@ -123,7 +123,7 @@ dashed (a ∷ x) (b ∷ v) =
 dash_kept : (c : ℕ) → (to_ascii_lowercase c == 45) ≡ (c == 45)
 dash_kept c = grind (arith, nat_tests)
 
-dash_at : (x : List ℕ) (n : ℕ) → (get_or (map to_ascii_lowercase x) n 0 == 45) ≡ (get_or x n 0 == 45)
+pub dash_at : (x : List ℕ) (n : ℕ) → (get_or (map to_ascii_lowercase x) n 0 == 45) ≡ (get_or x n 0 == 45)
 dash_at [] n = refl
 dash_at (c ∷ x) zero = dash_kept c
 dash_at (c ∷ x) (suc n) = dash_at x n

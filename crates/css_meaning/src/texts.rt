@@ -2,7 +2,7 @@
 ghost use Rattle.std.specs.Prelude.{◌≡◌, ◌==◌, ◌||◌, nat_le, length, slice_index, map};
 ghost use Rattle.std.specs.Char.{to_ascii_lowercase};
 ghost use Rattle.std.specs.Str.{chars, bytes_eq};
-ghost use Rattle.text_base.specs.Strings.{is_empty, starts_with, ends_with, contains};
+ghost use Rattle.text_base.specs.Strings.{is_empty, starts_with, ends_with, contains, is_among};
 
 use text_base::find_text;
 
@@ -11,6 +11,18 @@ pub fn is_text(text: &str, other: &str) -> bool
     ensures { result ≡ bytes_eq (chars text.now) (chars other.now) }
 {
     text == other
+}
+
+/// Whether the text is one of the others.
+pub fn is_one_of(text: &str, others: &[&str]) -> bool
+    ensures { result ≡ is_among (chars text.now) (map (λ other. chars other.now) others.now) }
+{
+    for other in others {
+        if is_text(other, text) {
+            return true;
+        }
+    }
+    false
 }
 
 /// Whether the text has no characters.
