@@ -1,5 +1,5 @@
 -- A walk over the words of a text.
-use Rattle.std.proofs.Common.{◌≡◌, ℕ, ◌-◌, ◌<◌, ◌≤◌, Bool, true, false, not, List, ◌∷◌, length, take, drop, get_or, sym, ◌∙◌, ap, arith}
+use Rattle.std.proofs.Common.{◌≡◌, ℕ, ◌-◌, ◌<◌, ◌≤◌, Bool, true, false, not, List, ◌∷◌, length, take, drop, get_or, refl, sym, ◌∙◌, ap, arith}
 use Rattle.std.specs.Prelude.{◌||◌}
 use Rattle.std.specs.Str.{bytes_eq}
 use Rattle.text_base.specs.Strings.{is_among}
@@ -11,10 +11,10 @@ use Rattle.css_meaning.specs.Kinds.{not_space5}
 
 fails : (a : Bool) → not a ≡ true → a ≡ false
 fails true h = absurd (let no : false ≡ true = h in cc)
-fails false h = h
+fails false h = refl
 
 passes : (a : Bool) → not a ≡ false → a ≡ true
-passes true h = h
+passes true h = refl
 passes false h = absurd (let no : true ≡ false = h in cc)
 
 module _ (text wanted : List ℕ) where

@@ -2,7 +2,8 @@ use Rattle.std.proofs.Common.{◌≡◌, [], ◌∷◌, refl, sym, ◌∙◌, ap
 use Rattle.doc_model.proofs.Below.{small}
 use Rattle.doc_model.proofs.WalkSteps.{up_over}
 use Rattle.css_meaning.specs.Language.{lang_name}
-use Rattle.css_meaning.proofs.Nearest.{named, none_after, none_here, further, nearest, topmost}
+use Rattle.css_meaning.proofs.FoundValues.{named}
+use Rattle.css_meaning.proofs.Nearest.{none_after, none_here, further, nearest, topmost}
 use Rattle.css_meaning.proofs.languages.nearest_language.Goals as goal
 
 pub loop-y-init : goal.loop-y-init

@@ -7,7 +7,7 @@ abbrev pub invariant-loop-y : goal.invariant-loop-y
 invariant-loop-y g l = record {
   within : l.y < length (g.T.Tree.document l.tree);
   over : IsOver (g.T.Tree.document l.tree) l.y l.e;
-  after : (k : ℕ) → l.y < k → k < length (g.T.Tree.document l.tree) → gives_language (g.T.Tree.document l.tree) l.dialect l.e k ≡ false;
+  after : (k : ℕ) → l.y < k → k < length (g.T.Tree.document l.tree) → gives_language (g.T.Tree.document l.tree) l.fn.dialect l.e k ≡ false;
 }
 
 abbrev pub decreases-loop-y : goal.decreases-loop-y
