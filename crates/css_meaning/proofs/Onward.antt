@@ -1,5 +1,5 @@
 -- A search goes on to what is as promising: the nearest row that a link names stands for what earlier choices left open.
-use Rattle.std.proofs.Common.{◌≡◌, ℕ, zero, suc, ◌+◌, ◌*◌, ◌<◌, ◌≤◌, Bool, true, false, ◌&&◌, ◌||◌, List, length, refl, sym, ◌∙◌, ap, subst, arith, inl, inr, ◌⊎◌}
+use Rattle.std.proofs.Common.{◌≡◌, ℕ, zero, suc, ◌+◌, ◌-◌, ◌*◌, ◌<◌, ◌≤◌, Bool, true, false, ◌&&◌, ◌||◌, List, length, get_or, refl, sym, ◌∙◌, ap, subst, arith, inl, inr, ◌⊎◌}
 use Rattle.std.specs.Prelude.{max}
 use Rattle.std.specs.Cmp.{both_ways as same_tests}
 use Rattle.std.proofs.Math.Nat.{mul-le-mul_right}
@@ -15,7 +15,7 @@ use Rattle.css_meaning.specs.declared.matching.Mark.{Mark}
 use Rattle.css_meaning.specs.declared.matching.Search.{Search}
 use Rattle.css_meaning.proofs.Earlier.{Earlier, earlier, is_earlier_from, none_of_root, Nearest, nearest, is_nearest_from}
 use Rattle.css_meaning.proofs.Finding.{found, finds}
-use Rattle.css_meaning.proofs.Leftward.{IsStep, IsLed, whole, split, join, element, some}
+use Rattle.css_meaning.proofs.Leftward.{IsStep, IsLed, whole, first, split, join, unheld, element, some}
 use Rattle.css_meaning.specs.Matching.{holds, linked, matches_by}
 use Rattle.css_meaning.specs.Siblings.{is_earlier, is_nearest_earlier}
 use Rattle.css_meaning.specs.Searching.{is_matched, is_matched_before, is_matched_above, is_promising, is_outer, IsMark, IsFound, KeepsBefore, KeepsAbove, IsSearch, left_of, IsOnward}
@@ -439,3 +439,34 @@ module _ (doc : Document) (d : Dialect) (parts : List Part) where
         | inr (inr b) ↦ absurd (both_ways _ (below_root doc b.0) b.1)
       ])
       (λ h. promise_at (begun e) (whole doc d parts e ∙ h))
+
+  -- ---- as the code says it
+
+  pub step_of : (s : Search) (p : Part) → IsSearch doc d parts s → 1 < s.at.left → get_or parts (s.at.left - 1) p ≡ p → IsStep parts (s.at.left - 1) s.at.left p
+  step_of s p w more e = record { some = omega arith; counts = omega arith; within = (let h = w.at.within in omega arith); is = e }
+
+  pub made : (s t : Search) (a b c : Mark) → t.at ≡ a → t.sibling ≡ b → t.ancestor ≡ c → IsOnward doc d parts s (search_of a b c) → IsOnward doc d parts s t
+  made s t a b c e f g w =
+      subst (IsOnward doc d parts s) (ap (λ v. search_of v b c) (sym e) ∙ (ap (λ v. search_of t.at v c) (sym f) ∙ ap (λ v. search_of t.at t.sibling v) (sym g))) w
+
+  pub fails : (s : Search) (p : Part) → IsSearch doc d parts s → get_or parts (s.at.left - 1) p ≡ p → holds doc d p s.at.row ≡ false → is_matched doc d parts s.at.left s.at.row ≡ false
+  fails s p w e h =
+      elim (cases_lt 1 s.at.left) [
+        | inl more ↦ unheld doc d parts (s.at.left - 1) s.at.left p (step_of s p w more e) s.at.row h
+        | inr none ↦ (let one : s.at.left ≡ 1 = (let k = w.at.some in omega arith) in ap (λ n. is_matched doc d parts n s.at.row) one ∙ (only_part s p w one e ∙ h))
+      ]
+    where
+      only_part : (s : Search) (p : Part) → IsSearch doc d parts s → s.at.left ≡ 1 → get_or parts (s.at.left - 1) p ≡ p → is_matched doc d parts 1 s.at.row ≡ holds doc d p s.at.row
+      only_part s p w one e =
+          let zeroth : s.at.left - 1 ≡ 0 = omega arith in
+          first doc d parts p (let k = w.at.within in omega arith) (subst (λ n. get_or parts n p ≡ p) zeroth e) s.at.row
+
+  -- the first part holds, and all others are matched
+  pub reached : (s : Search) (p : Part) → IsSearch doc d parts s → s.at.left ≡ 1 → get_or parts (s.at.left - 1) p ≡ p → holds doc d p s.at.row ≡ true → is_promising doc d parts s ≡ true
+  reached s p w one e h =
+      let zeroth : s.at.left - 1 ≡ 0 = omega arith in
+      promise_at s (ap (λ n. is_matched doc d parts n s.at.row) one ∙ (first doc d parts p (let k = w.at.within in omega arith) (subst (λ n. get_or parts n p ≡ p) zeroth e) s.at.row ∙ h))
+
+pub positive : (x : ℕ) → (x ≡ 0 → ⊥) → 0 < x
+positive zero h = absurd (h refl)
+positive (suc x) h = omega arith
