@@ -1,9 +1,9 @@
 -- A search goes on to what is as promising: the nearest row that a link names stands for what earlier choices left open.
-use Rattle.std.proofs.Common.{◌≡◌, ℕ, zero, suc, ◌+◌, ◌-◌, ◌*◌, ◌<◌, ◌≤◌, Bool, true, false, ◌&&◌, ◌||◌, List, length, get_or, refl, sym, ◌∙◌, ap, subst, arith, inl, inr, ◌⊎◌}
+use Rattle.std.proofs.Common.{◌≡◌, ℕ, zero, suc, ◌+◌, ◌-◌, ◌*◌, ◌<◌, ◌≤◌, Bool, true, false, ◌&&◌, ◌||◌, eqb, List, [], ◌∷◌, length, get_or, refl, sym, ◌∙◌, ap, subst, arith, inl, inr, ◌⊎◌}
 use Rattle.std.specs.Prelude.{max}
 use Rattle.std.specs.Cmp.{both_ways as same_tests}
 use Rattle.std.proofs.Math.Nat.{mul-le-mul_right}
-use Rattle.std.proofs.lemmas.Bool.{and_parts, and_from, or_cases, or_left, or_right, cases_lt, cases_order, eqb-true, eq-eqb, ltb-true, false_from_ne_true, both_ways}
+use Rattle.std.proofs.lemmas.Bool.{and_parts, and_from, or_cases, or_left, or_right, cases_lt, eqb-true, eqb-false, eq-eqb, ltb-true, false_from_ne_true, both_ways}
 use Rattle.std.proofs.Common.{lt-ltb}
 use Rattle.doc_model.specs.Document.{Document, row, is_element, is_parent, below, IsDocument}
 use Rattle.doc_model.proofs.Below.{Small, small, below_root, below_cases, below_less, below_parent, below_up, below_trans}
@@ -16,7 +16,7 @@ use Rattle.css_meaning.specs.declared.matching.Search.{Search}
 use Rattle.css_meaning.proofs.Earlier.{Earlier, earlier, is_earlier_from, none_of_root, Nearest, nearest, is_nearest_from}
 use Rattle.css_meaning.proofs.Finding.{found, finds}
 use Rattle.css_meaning.proofs.Leftward.{IsStep, IsLed, whole, first, split, join, unheld, element, some}
-use Rattle.css_meaning.specs.Matching.{holds, linked, matches_by}
+use Rattle.css_meaning.specs.Matching.{holds, linked, matches_by, matches_back}
 use Rattle.css_meaning.specs.Siblings.{is_earlier, is_nearest_earlier}
 use Rattle.css_meaning.specs.Searching.{is_matched, is_matched_before, is_matched_above, is_promising, is_outer, IsMark, IsFound, KeepsBefore, KeepsAbove, IsSearch, left_of, IsOnward}
 
@@ -467,6 +467,22 @@ module _ (doc : Document) (d : Dialect) (parts : List Part) where
       let zeroth : s.at.left - 1 ≡ 0 = omega arith in
       promise_at s (ap (λ n. is_matched doc d parts n s.at.row) one ∙ (first doc d parts p (let k = w.at.within in omega arith) (subst (λ n. get_or parts n p ≡ p) zeroth e) s.at.row ∙ h))
 
+  pub begins_at : IsDocument doc → (t : Search) (e : ℕ) → t.at ≡ mark (length parts) e → t.sibling ≡ mark (length parts) 0 → t.ancestor ≡ mark (length parts) 0 → 0 < length parts → e < length doc
+      → IsSearch doc d parts t × (is_promising doc d parts t ≡ matches_by doc d parts e)
+  begins_at dd t e f g h some_part within =
+      subst (λ u. IsSearch doc d parts u × (is_promising doc d parts u ≡ matches_by doc d parts e))
+      (ap (λ v. search_of v (mark (length parts) 0) (mark (length parts) 0)) (sym f) ∙ (ap (λ v. search_of t.at v (mark (length parts) 0)) (sym g) ∙ ap (λ v. search_of t.at t.sibling v) (sym h)))
+      (begins e some_part within, promises_all dd e (omega arith))
+
 pub positive : (x : ℕ) → (x ≡ 0 → ⊥) → 0 < x
 positive zero h = absurd (h refl)
 positive (suc x) h = omega arith
+
+pub some_part : (parts : List Part) → eqb (length parts) 0 ≡ false → 0 < length parts
+some_part parts h = positive (length parts) (eqb-false _ _ h)
+
+-- without a part there is no match
+pub no_part : (doc : Document) (d : Dialect) (parts : List Part) (e : ℕ) → eqb (length parts) 0 ≡ true → matches_by doc d parts e ≡ false
+unfolding matches_back
+no_part doc d [] e h = refl
+no_part doc d (p ∷ ps) e h = absurd (let none : suc (length ps) ≡ 0 = eqb-true _ _ h in omega arith)
