@@ -12,10 +12,7 @@ use Rattle.query_script.specs.declared.script.FieldValue.TheVariants.{All, One, 
 use Rattle.query_chain.specs.Chains.{IsValue}
 use Rattle.json_lines.specs.Pages.{page_text, refused_text}
 use Rattle.extract_main.specs.Answers.{Answer}
-
--- the most bytes of a page
-abbrev pub most_page : ℕ
-most_page = 4194304
+pub use Rattle.io_edges.specs.Pages.{most_page}
 
 -- why a page with more bytes is refused: the place is that of the first byte too many
 abbrev pub too_long : PageFault

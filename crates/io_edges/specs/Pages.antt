@@ -2,6 +2,10 @@
 use Rattle.std.specs.Prelude.{◌≡◌, ℕ, ◌<◌, ◌++◌, List, [], ◌∷◌, Option, Some, None, if◌then◌else◌, IfSome, MatchOption, length}
 use Rattle.std.specs.Str.{bytes_eq}
 
+-- the most bytes of a page
+abbrev pub most_page : ℕ
+most_page = 4194304
+
 -- the bytes of the page of this name
 abbrev pub page : List (List ℕ × List ℕ) → List ℕ → Option (List ℕ)
 page [] name = None

@@ -1,6 +1,6 @@
 ghost use Rattle.std.specs.Prelude.{◌≡◌, ◌⊎◌, ◌≤◌, IfOk, OnOk, OnErr, IsErr, IsErrOf, length};
 ghost use Rattle.io_edges.specs.Counts.{Rose, Grows};
-ghost use Rattle.io_edges.specs.Pages.{Lacks, Exceeds, Has, IsTooLong, IsDone, LeavesEnd};
+ghost use Rattle.io_edges.specs.Pages.{most_page, Lacks, Exceeds, Has, IsTooLong, IsDone, LeavesEnd};
 ghost use Rattle.io_edges.specs.declared.read.ReadEnd.TheVariants.{Memory};
 
 use crate::{BeginFault, Failed, Pages};
@@ -44,11 +44,11 @@ pub fn read_page<P: Pages>(alloc: Global, pages: &mut P, name: &str) -> Result<V
     ensures lacking { Lacks (P.told pages.old) name.now →
         IsErrOf result ReadEnd.Fault ⊎ IsErrOf result ReadEnd.Memory }
     ensures too_long { IsErrOf result ReadEnd.TooLong →
-        IsTooLong (P.told pages.old) name.now PAGE_LIMIT }
-    ensures exceeding { Exceeds (P.told pages.old) name.now PAGE_LIMIT →
+        IsTooLong (P.told pages.old) name.now most_page }
+    ensures exceeding { Exceeds (P.told pages.old) name.now most_page →
         IsErrOf result ReadEnd.TooLong ⊎ IsErrOf result ReadEnd.Memory
         ⊎ Rose (P.faults pages.old) (P.faults pages.new) }
-    ensures within { IfOk result (λ bytes. length bytes.items ≤ PAGE_LIMIT) }
+    ensures within { IfOk result (λ bytes. length bytes.items ≤ most_page) }
     ensures bytes { IfOk result (λ bytes. Has (P.told pages.old) name.now bytes.items) }
     ensures done { OnOk result (IsDone (P.left pages.new)) }
     ensures ends { OnErr result (LeavesEnd (P.told pages.old) name.now (P.left pages.new)) }

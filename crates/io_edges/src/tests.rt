@@ -1,8 +1,8 @@
 ghost use Rattle.std.specs.Prelude.{◌<◌};
 
 use crate::{
-    FilePages, MemPages, MemSink, NullSink, PAGE_LIMIT, PageFile, Pages, ReadEnd, StdoutSink,
-    SurePages, WriteFault, read_page, write_whole,
+    FilePages, MemPages, MemSink, NullSink, PageFile, Pages, ReadEnd, StdoutSink, SurePages,
+    WriteFault, read_page, write_whole,
 };
 use std::alloc::Global;
 use std::test::Fail;
@@ -70,9 +70,9 @@ fn reads_whole_pages(rt: HostRuntime) -> Result<(), Fail> {
 fn keeps_the_limit(rt: HostRuntime) -> Result<(), Fail> {
     let alloc = rt.alloc();
     let mut bytes = Vec::new(alloc);
-    bytes.resize(PAGE_LIMIT, 60)?;
+    bytes.resize(4_194_304, 60)?;
     let mut pages = SurePages::new(two_files(alloc, bytes.as_slice())?, 9_999);
-    assert_eq!(rt; size_of(alloc, &mut pages, "a"), Ok(PAGE_LIMIT));
+    assert_eq!(rt; size_of(alloc, &mut pages, "a"), Ok(4_194_304));
     bytes.push(60)?;
     let mut pages = SurePages::new(two_files(alloc, bytes.as_slice())?, 9_999);
     assert_eq!(rt; size_of(alloc, &mut pages, "a"), Err(ReadEnd::TooLong));
