@@ -10,9 +10,9 @@ use Rattle.std.proofs.lemmas.Bool.Decides.{nat_tests}
 use Rattle.text_base.specs.Text.{run_end, is_not_byte, IsPlace}
 use Rattle.text_base.proofs.Runs.{run_end_step}
 use Rattle.text_base.proofs.Boundaries.{past_ascii}
-use Rattle.css_translate.specs.Literals.{is_apostrophe, is_double, Quoted, quote_of, add, quoted_runs, quoted, listed, shown, literal_text}
+use Rattle.css_printed.specs.Literals.{is_apostrophe, is_double, Quoted, quote_of, add, quoted_runs, quoted, listed, shown, literal_text}
 use Rattle.css_translate.specs.Runs.{further, WritesRun, InApostrophes}
-use Rattle.css_translate.proofs.LiteralParts.{two_parts}
+use Rattle.css_printed.proofs.LiteralParts.{two_parts}
 
 -- a byte stands in a text where the run of others ends before the text
 no_prefix : (b : ℕ) (x : List ℕ) → list_any (λ c. c == b) x ≡ false → prefix_len (is_not_byte b) x ≡ length x
