@@ -1,11 +1,10 @@
 -- The conditions of positions by the signs of their numbers.
-use Rattle.std.proofs.Common.{◌≡◌, refl, ℕ, zero, suc, ◌<◌, ◌≤◌, true, false, List, [], ◌∷◌, ◌++◌, ap, ◌∙◌, arith, rules, cond, append-nil}
+use Rattle.std.proofs.Common.{◌≡◌, refl, ℕ, zero, suc, ◌<◌, ◌≤◌, true, false, List, [], ◌∷◌, ap, ◌∙◌, arith, cond, append-nil}
 use Rattle.std.specs.List.{flat_map}
 use Rattle.std.specs.Prelude.{ℤ, pos, negsuc, ◌-ℤ◌, ◌<ℤ◌, ◌≤ℤ◌, unsigned_abs, nat_lt}
 use Rattle.std.proofs.lemmas.Bool.Decides.{nat_tests}
 use Rattle.std.proofs.lemmas.Int.{ints}
-use Rattle.std.proofs.lemmas.Grind.{common_steps}
-use Rattle.css_printed.specs.Conditions.{Condition, never, exactly, at_least, at_most, every, remainder, every_from, from_position, conditions}
+use Rattle.css_printed.specs.Conditions.{Condition, never, exactly, at_least, every, remainder, every_from, from_position, conditions}
 
 abbrev Text : Type 0
 Text = List ℕ
@@ -49,23 +48,3 @@ pub no_position : (f : Condition → Text) (b : ℤ) → b ≤ℤ pos 0 → flat
 no_position f (pos zero) h = append-nil (f never)
 no_position f (pos (suc n)) h = absurd (omega (arith, ints))
 no_position f (negsuc n) h = append-nil (f never)
-
-joins : (f : Condition → Text) (x y : List Condition) → flat_map f (x ++ y) ≡ flat_map f x ++ flat_map f y
-joins f x y = search (rules, common_steps)
-
-pub growing : (f : Condition → Text) (a b : ℤ) → pos 0 <ℤ a → flat_map f (conditions a b) ≡ flat_map f (from_position b) ++ flat_map f (every_from (unsigned_abs a) b)
-growing f (pos zero) b h = absurd (omega (arith, ints))
-growing f (pos (suc a)) b h = joins f (from_position b) (every_from (suc a) b)
-growing f (negsuc a) b h = absurd (omega (arith, ints))
-
-pub falling : (f : Condition → Text) (a b : ℤ) → a <ℤ pos 0 → pos 0 <ℤ b → flat_map f (conditions a b) ≡ f (at_most (unsigned_abs (b -ℤ pos 1))) ++ flat_map f (every_from (unsigned_abs a) b)
-falling f (pos a) b h g = absurd (omega (arith, ints))
-falling f (negsuc a) (pos zero) h g = absurd (omega (arith, ints))
-falling f (negsuc a) (pos (suc n)) h g = ap (λ k. f (at_most k) ++ flat_map f (every_from (suc a) (pos (suc n)))) (before n)
-falling f (negsuc a) (negsuc n) h g = absurd (omega (arith, ints))
-
-pub no_falling : (f : Condition → Text) (a b : ℤ) → a <ℤ pos 0 → b ≤ℤ pos 0 → flat_map f (conditions a b) ≡ f never
-no_falling f (pos a) b h g = absurd (omega (arith, ints))
-no_falling f (negsuc a) (pos zero) h g = append-nil (f never)
-no_falling f (negsuc a) (pos (suc n)) h g = absurd (omega (arith, ints))
-no_falling f (negsuc a) (negsuc n) h g = append-nil (f never)

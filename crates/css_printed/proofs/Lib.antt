@@ -6,6 +6,7 @@ pub mod LinksNext
 pub mod LiteralBytes
 pub mod LiteralMeaning
 pub mod LiteralParts
+pub mod LiteralRuns
 pub mod Means
 pub mod MeansAll
 pub mod MeansAttributes
@@ -15,7 +16,6 @@ pub mod MeansLower
 pub mod MeansNames
 pub mod MeansNth
 pub mod MeansParts
-pub mod MeansPlain
 pub mod MeansPositions
 pub mod MeansPseudo
 pub mod MeansSiblings

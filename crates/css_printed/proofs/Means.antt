@@ -35,13 +35,9 @@ use Rattle.css_printed.specs.Expression.{part_step, tail_steps, selector_steps, 
 use Rattle.css_printed.specs.Predicates.{step, attribute_step}
 use Rattle.css_printed.proofs.Links.{near}
 use Rattle.css_printed.proofs.Paths as paths
-use Rattle.css_printed.proofs.Paths.{chain, path_append, path_chain, path_rows, one_step, stays_in, only_one, in_rows_in}
+use Rattle.css_printed.proofs.Paths.{chain, path_append, path_chain, path_rows, one_step, in_rows_in}
 use Rattle.css_printed.proofs.PathsKept.{Keep, keep_none, step_has}
 use Rattle.css_printed.proofs.MeansNames.{attribute_walk}
-
--- `row` is where the expression is evaluated, alone
-abbrev pub at_row : ℕ → Context
-at_row c = record { row = c; position = 1; size = 1 }
 
 abbrev pub any_row : ℕ → Bool
 any_row x = true

@@ -1,10 +1,10 @@
 -- Every test, and the theorem: the expression of a well made list denotes what the list answers.
-use Rattle.std.proofs.Common.{◌≡◌, refl, ℕ, Bool, true, List, [], ◌∷◌, ap, sym, ◌∙◌, Option}
+use Rattle.std.proofs.Common.{◌≡◌, refl, ℕ, Bool, true, ◌&&◌, List, [], ◌∷◌, ap, sym, ◌∙◌, Option}
 use Rattle.std.specs.Prelude.{codes}
 use Rattle.std.specs.List.{list_any, AllByRecursion}
 use Rattle.std.specs.Str.{bytes_eq}
 use Rattle.std.proofs.lemmas.List.Elements.{recursion_from_All}
-use Rattle.doc_model.specs.Document.{Document, IsDocument}
+use Rattle.doc_model.specs.Document.{Document, rows, IsDocument}
 use Rattle.css_meaning.specs.declared.selector.Dialect.{Dialect}
 use Rattle.css_meaning.specs.declared.selector.Dialect.TheVariants.{Generic, Html}
 use Rattle.css_meaning.specs.declared.selector.Op.{Op}
@@ -17,7 +17,10 @@ use Rattle.css_meaning.specs.Names.{folded}
 use Rattle.css_meaning.specs.Attributes.{has_value, attribute_holds}
 use Rattle.css_meaning.specs.Limits.{Countable, NoFormFeed, is_word_op, is_word_test}
 use Rattle.css_meaning.specs.WellMade.{FitsTest, FitsPseudo, IsPart, IsSelector, WellMade}
-use Rattle.css_meaning.specs.Matching.{answers}
+use Rattle.css_meaning.specs.Matching.{matches_by, gives, answered, answers}
+use Rattle.css_meaning.proofs.ListTests as lists
+use Rattle.css_meaning.proofs.Finding.{row_within}
+use Rattle.css_meaning.proofs.Backwards.{matches_law}
 use Rattle.css_meaning.specs.declared.selector.Part.{Part}
 use Rattle.css_meaning.specs.declared.selector.Selector.{Selector}
 use Rattle.css_meaning.specs.declared.selector.SelectorList.{SelectorList}
@@ -30,7 +33,6 @@ use Rattle.css_printed.specs.Expression.{expression}
 use Rattle.css_printed.specs.Promise.{IsWithin, alone, matched}
 use Rattle.css_printed.proofs.MeansLanguage.{lang_is}
 use Rattle.css_printed.proofs.Means.{SelectorGives, denote_list}
-use Rattle.css_printed.proofs.MeansPlain.{root_matched}
 use Rattle.css_printed.specs.Predicates.{attribute, plain_attribute, op_predicate}
 use Rattle.css_printed.proofs.PathsKept.{Keep}
 use Rattle.css_printed.proofs.MeansNames.{at_attribute, at_plain_attribute}
@@ -108,6 +110,15 @@ module _ (doc : Document) (is : IsDocument doc) (c : Countable doc) (d : Dialect
   selectors_give [] fits calm = tt
   selectors_give (s ∷ items) fits calm =
       (selector_gives s fits.0 (λ w. calm (or_left _ _ w)), selectors_give items fits.1 (λ w. calm (or_right (list_any (λ p. list_any (λ x. is_word_test x.test) p.simples) s.parts) _ w)))
+
+module _ (doc : Document) (d : Dialect) where
+  matched_from : IsDocument doc → (items : List Selector) (r : ℕ)
+      → list_any (λ s. answered doc d s 0 r) items ≡ list_any (λ s. list_any (λ e. matches_by doc d s.parts e && gives doc d s.tail e r) (rows doc)) items
+  matched_from is items r = lists.any_same _ _ (λ s. lists.any_among _ _ (rows doc) (λ e among. ap (λ b. b && gives doc d s.tail e r) (matches_law doc is d s e (row_within doc e among)))) items
+
+  -- the answers from the root node are what the selectors give for the elements that they match
+  root_matched : IsDocument doc → (list : SelectorList) → answers doc d list 0 ≡ matched doc d list
+  root_matched is list = lists.filter_same _ _ (λ r. matched_from is list.items r) (rows doc)
 
 -- the expression of a well made list denotes, at each row, position and size, the rows that the list answers from there
 pub denote_answers : (doc : Document) (d : Dialect) (list : SelectorList) → WellMade list → IsWithin list doc → (c : Context) → denote doc (expression d list) c ≡ Nodes (answers doc d list c.row)

@@ -8,12 +8,6 @@ use Rattle.std.proofs.lemmas.Bool.{le-ltb, cases_lt, eqb-true, false_from_ne_tru
 use Rattle.std.proofs.lemmas.Bool.Decides.{eqb_tells}
 use Rattle.xpath_values.specs.Strings.{translated, translated_char}
 
-capitals : codes "ABCDEFGHIJKLMNOPQRSTUVWXYZ" ≡ range_with_len 65 26
-capitals = refl
-
-smalls : codes "abcdefghijklmnopqrstuvwxyz" ≡ range_with_len 97 26
-smalls = refl
-
 differ : (a b : ℕ) → (a ≡ b → ⊥) → eqb a b ≡ false
 differ a b h = false_from_ne_true _ (λ t. h (eqb-true a b t))
 

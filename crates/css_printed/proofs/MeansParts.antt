@@ -129,7 +129,3 @@ module _ (doc : Document) (d : Dialect) where
   pub all_give : (parts : List Part) → AreLinked parts → AllByRecursion PartKeeps parts → AllGive doc d parts
   all_give [] l h = l
   all_give (p ∷ ps) l h = (l.0, first_part p l.0 h.0, further_parts ps (recursion_from_All (λ (q : Part). q.link ≢ link.First) ps l.1) h.1)
-
-  -- no simples are kept everywhere
-  pub bare_keeps : (p : Part) → p.simples ≡ [] → PartKeeps p
-  bare_keeps p e = subst (λ ss. Keep doc (is_named_element p.element) (flat_map (simple_predicates d p.element) ss) (all_hold ss)) (sym e) (keep_none doc (is_named_element p.element))

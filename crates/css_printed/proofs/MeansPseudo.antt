@@ -27,7 +27,7 @@ use Rattle.xpath_parser.specs.Denote.{has, denote}
 use Rattle.css_printed.specs.Predicates.{path, literal, both, not_one, self_named, one_of, control, plain_attribute, equals, html_predicate, link_predicate, checked_predicate}
 use Rattle.css_printed.proofs.PathsKept.{Is}
 use Rattle.css_printed.proofs.MeansValues as values
-use Rattle.css_printed.proofs.MeansValues.{Value_at, is_truth, is_nodes, is_never, any_kept, at_not, at_both, at_either, at_or, at_and, at_call_two, at_bare_step, Truths_at}
+use Rattle.css_printed.proofs.MeansValues.{Value_at, is_truth, is_never, any_kept, at_not, at_both, at_either, at_or, at_and, at_call_two, at_bare_step, Truths_at}
 use Rattle.css_printed.proofs.MeansNames.{at_text, at_plain_attribute}
 use Rattle.css_printed.proofs.MeansAttributes.{flip, found, at_equals, contains_same}
 use Rattle.css_printed.proofs.MeansParts.{element_row, self_any}
@@ -95,12 +95,6 @@ module _ (doc : Document) where
   rooted : (n : Bool) → not (true && not n) ≡ (true && n)
   rooted true = refl
   rooted false = refl
-
-  upward : (l p e : Bool) → ((l && p) && e) ≡ (p && (l && e))
-  upward true true e = refl
-  upward true false e = refl
-  upward false true e = refl
-  upward false false e = refl
 
   root_is_at : IsDocument doc → (x : ℕ) → is_element doc x ≡ true → x < length doc → Is doc (not_one (path axis.Parent node.AnyName [])) x (is_parent doc 0 x)
   root_is_at is x h within at size =

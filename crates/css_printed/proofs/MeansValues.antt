@@ -11,7 +11,7 @@ use Rattle.doc_model.specs.Document.{Document, rows}
 use Rattle.doc_model.specs.Axes.{on_axis, passes}
 use Rattle.css_meaning.proofs.ListTests as lists
 use Rattle.xpath_values.specs.declared.value.Value.{Value}
-use Rattle.xpath_values.specs.declared.value.Value.TheVariants.{Nodes, Num, Str, Bool as Truth}
+use Rattle.xpath_values.specs.declared.value.Value.TheVariants.{Nodes, Num, Bool as Truth}
 use Rattle.xpath_values.specs.Numbers.{whole}
 use Rattle.xpath_parser.specs.declared.expression.Func.{Func}
 use Rattle.xpath_parser.specs.declared.expression.Func.TheVariants as f
@@ -40,9 +40,6 @@ module _ (doc : Document) where
 
   pub is_nodes : (e : Expr) (x : ℕ) (xs : List ℕ) → Value_at e x (Nodes xs) → Is doc e x (is_any xs)
   is_nodes e x xs h at size = ap (keeps (suc at)) (h (suc at) size)
-
-  pub at_literal : (s : List ℕ) (x : ℕ) → Value_at (e.Literal s) x (Str s)
-  at_literal s x at size = eq.at_literal doc s (record { row = x; position = at; size = size })
 
   pub at_number : (n : ℤ) (x : ℕ) → Value_at (e.Number n) x (Num (whole n))
   at_number n x at size = eq.at_number doc n (record { row = x; position = at; size = size })

@@ -1,7 +1,7 @@
 -- Where a path of steps ends, by what each of them relates.
 use Rattle.std.proofs.Common.{◌≡◌, refl, ℕ, Bool, true, ◌&&◌, eqb, List, [], ◌∷◌, ◌++◌, ap, sym, ◌∙◌, filter, map, inl, inr}
 use Rattle.std.specs.List.{list_any, AllByRecursion}
-use Rattle.std.proofs.lemmas.Bool.{or_cases, and_parts, eqb-true}
+use Rattle.std.proofs.lemmas.Bool.{or_cases, and_parts}
 use Rattle.doc_model.specs.Document.{Document, rows}
 use Rattle.css_meaning.proofs.ListTests as lists
 use Rattle.xpath_parser.specs.Denote.{Walk, has, path, rows_in}
@@ -13,9 +13,6 @@ found_in p (x ∷ xs) h = elim (or_cases (p x) (list_any p xs) h) [
   | inl here ↦ (x, lists.in_first x xs, here)
   | inr later ↦ (let w : (z : ℕ) × (has z xs ≡ true) × (p z ≡ true) = found_in p xs later in (w.0, lists.in_rest x w.0 xs w.1, w.2))
 ]
-
-pub only_one : (c x : ℕ) → has x (c ∷ []) ≡ true → x ≡ c
-only_one c x h = sym (eqb-true c x (sym (lists.or_false (eqb c x)) ∙ h))
 
 module _ (doc : Document) where
   -- a row stands in the list of one of the places

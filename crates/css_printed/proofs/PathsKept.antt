@@ -106,7 +106,3 @@ module _ (doc : Document) where
 
   pub keep_both : (kind : ℕ → Bool) (es fs : List Expr) (p q : ℕ → Bool) → Keep kind es p → Keep kind fs q → Keep kind (es ++ fs) (λ y. p y && q y)
   keep_both kind es fs p q k l = keep_then kind kind es fs p q k l (λ x h i. h)
-
-  -- what holds of fewer rows
-  pub keep_within : (kind fewer : ℕ → Bool) (es : List Expr) (p : ℕ → Bool) → ((x : ℕ) → fewer x ≡ true → kind x ≡ true) → Keep kind es p → Keep fewer es p
-  keep_within kind fewer es p within k xs of_kind = k xs (λ x i. within x (of_kind x i))

@@ -1,23 +1,15 @@
--- Plain names: they are ASCII, and stay plain in lower case.
-use Rattle.std.proofs.Common.{◌≡◌, refl, ℕ, ◌<◌, true, List, [], ◌∷◌, ap, ◌∙◌, map, arith}
+-- Plain names are ASCII, and names of XPath.
+use Rattle.std.proofs.Common.{◌≡◌, refl, ℕ, ◌<◌, true, List, [], ◌∷◌, ap, ◌∙◌, arith}
 use Rattle.std.specs.List.{list_all}
 use Rattle.std.specs.Str.{chars, IsAscii}
-use Rattle.std.specs.Char.{to_ascii_lowercase}
 use Rattle.std.proofs.lemmas.Bool.{and_parts, and_from}
 use Rattle.std.proofs.lemmas.Bool.Decides.{nat_tests}
 use Rattle.std.proofs.lemmas.Str.{chars-IsAscii, encodes-IsAscii}
 use Rattle.std.proofs.lemmas.Str.Ascii.{IsAscii-nil, IsAscii-cons}
 use Rattle.css_meaning.specs.declared.selector.Dialect.{Dialect}
-use Rattle.css_meaning.specs.declared.selector.Dialect.TheVariants.{Generic, Html}
 use Rattle.css_meaning.specs.Names.{folded}
 use Rattle.xpath_lexer.specs.Tokens.{is_name_start, is_name_byte}
 use Rattle.css_printed.specs.Names.{is_plain_start, is_plain_char, is_plain, name_bytes}
-
-start_lower : (c : ℕ) → is_plain_start c ≡ true → is_plain_start (to_ascii_lowercase c) ≡ true
-start_lower c h = grind (arith, nat_tests)
-
-char_lower : (c : ℕ) → is_plain_char c ≡ true → is_plain_char (to_ascii_lowercase c) ≡ true
-char_lower c h = grind (arith, nat_tests)
 
 start_name : (c : ℕ) → is_plain_start c ≡ true → is_name_start c ≡ true
 start_name c h = grind (arith, nat_tests)
@@ -27,16 +19,6 @@ char_name c h = grind (arith, nat_tests)
 
 start_char : (c : ℕ) → is_plain_start c ≡ true → is_plain_char c ≡ true
 start_char c h = grind (arith, nat_tests)
-
-chars_lower : (cs : List ℕ) → list_all is_plain_char cs ≡ true → list_all is_plain_char (map to_ascii_lowercase cs) ≡ true
-chars_lower [] h = refl
-chars_lower (c ∷ cs) h = let b = and_parts (is_plain_char c) (list_all is_plain_char cs) h in and_from _ _ (char_lower c b.0) (chars_lower cs b.1)
-
--- a plain name stays plain in lower case
-pub folded_plain : (d : Dialect) (n : List ℕ) → is_plain n ≡ true → is_plain (folded d n) ≡ true
-folded_plain Generic n h = h
-folded_plain Html [] h = h
-folded_plain Html (c ∷ cs) h = let b = and_parts (is_plain_start c) (list_all is_plain_char cs) h in and_from _ _ (start_lower c b.0) (chars_lower cs b.1)
 
 pub name_chars : (cs : List ℕ) → list_all is_plain_char cs ≡ true → list_all is_name_byte cs ≡ true
 name_chars [] h = refl

@@ -301,12 +301,6 @@ pub choose_puts : (r : ℕ) (a : Bool) (r' : ℕ) (a' : Bool) (b : Bool) (x y : 
 choose_puts r a r' a' true x y ts us f g = f refl
 choose_puts r a r' a' false x y ts us f g = g refl
 
-pub same_terms : (r : ℕ) (a : Bool) (r' : ℕ) (a' : Bool) (x : Text) (ts us : List Term) → ts ≡ us → Puts r a r' a' x ts → Puts r a r' a' x us
-same_terms r a r' a' x ts us e p = subst (Puts r a r' a' x) e p
-
-pub same_text : (r : ℕ) (a : Bool) (r' : ℕ) (a' : Bool) (x y : Text) (ts : List Term) → x ≡ y → Puts r a r' a' x ts → Puts r a r' a' y ts
-same_text r a r' a' x y ts e p = let P : Text → Type 0 = λ z. Puts r a r' a' z ts in subst P e p
-
 pub nothing_puts : (r : ℕ) (a : Bool) → Puts r a r a [] []
 nothing_puts r a rest us h b = b
 

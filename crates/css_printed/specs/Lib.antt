@@ -4,7 +4,6 @@ pub mod Expression
 pub mod LiteralLaw
 pub mod Literals
 pub mod Names
-pub mod Plain
 pub mod Predicates
 pub mod Printed
 pub mod PrintedLaw

@@ -2,8 +2,8 @@ ghost use Rattle.css_printed.specs.Examples.{WorkedTexts};
 ghost use Rattle.css_printed.specs.LiteralLaw.{LiteralLaw};
 ghost use Rattle.css_printed.specs.PrintedLaw.{PrintedLaw};
 
-/// The printed text of a well made list, within the limit, reads as one expression, which gives the rows that the list
-/// answers. Selectors Level 3, XPath 1.0.
+/// The printed text of each well made list of texts, where it is no longer than an XPath text may be, reads as one
+/// expression, which gives from each row what the list answers there. Selectors Level 3, section 8.
 #[tactic(auto, using(crate::proofs::Theorem::printed_law))]
 pub fn printed_texts_keep_meaning()
     ensures { PrintedLaw }

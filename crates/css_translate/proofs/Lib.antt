@@ -1,5 +1,5 @@
 pub mod Further
-pub mod LiteralRuns
 pub mod Pushes
 pub mod Rows
 pub mod TextLemmas
+pub mod WrittenRuns

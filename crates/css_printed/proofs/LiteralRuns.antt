@@ -1,17 +1,11 @@
--- The runs of a literal, found from the left.
-use Rattle.std.proofs.Common.{◌≡◌, ℕ, suc, ◌+◌, ◌-◌, ◌<◌, ◌≤◌, Bool, true, false, cond, List, [], ◌∷◌, ◌++◌, length, take, drop, refl, sym, ◌∙◌, ap, arith, inl, inr, append_assoc, append-nil, subst}
-use Rattle.std.specs.Prelude.{◌==◌, ◌||◌, not, nat_lt, slice_index, slice_range, codes}
+-- The runs of a literal, from the left.
+use Rattle.std.proofs.Common.{◌≡◌, ℕ, suc, ◌+◌, ◌-◌, ◌<◌, ◌≤◌, Bool, true, false, cond, List, [], ◌∷◌, ◌++◌, length, take, drop, refl, sym, ◌∙◌, ap, arith, inl, inr}
+use Rattle.std.specs.Prelude.{◌==◌, ◌||◌, not, nat_lt, codes}
 use Rattle.std.specs.List.{list_any, prefix_len}
-use Rattle.std.specs.Str.{IsUtf8}
-use Rattle.std.proofs.Math.Seq.{drop-cons}
-use Rattle.std.proofs.lemmas.List.{drop-drop, drop_all}
 use Rattle.std.proofs.lemmas.Bool.{cases_Bool, or_parts}
 use Rattle.std.proofs.lemmas.Bool.Decides.{nat_tests}
-use Rattle.text_base.specs.Text.{run_end, is_not_byte, IsPlace}
-use Rattle.text_base.proofs.Runs.{run_end_step}
-use Rattle.text_base.proofs.Boundaries.{past_ascii}
-use Rattle.css_printed.specs.Literals.{is_apostrophe, is_double, Quoted, quote_of, add, quoted_runs, quoted, listed, shown, literal_text}
-use Rattle.css_translate.specs.Runs.{further, WritesRun, InApostrophes}
+use Rattle.text_base.specs.Text.{run_end, is_not_byte}
+use Rattle.css_printed.specs.Literals.{is_apostrophe, is_double, Quoted, quote_of, add, quoted_runs, listed, shown, literal_text}
 use Rattle.css_printed.proofs.LiteralParts.{two_parts}
 
 -- a byte stands in a text where the run of others ends before the text
@@ -49,7 +43,7 @@ drop_one k c ys = let e : 1 + k ≡ suc k = omega arith in ap (λ n. drop n (c �
 abbrev pub same_quote : ℕ → ℕ → Bool
 same_quote c = cond (is_apostrophe c) is_apostrophe (is_not_byte 39)
 
-abbrev run_of : ℕ → List ℕ → ℕ → List Quoted
+abbrev pub run_of : ℕ → List ℕ → ℕ → List Quoted
 run_of q x n = record { quote = q; content = take n x } ∷ quoted_runs (drop n x)
 
 one_more : (q n c : ℕ) (x : List ℕ) → ◌≡◌ {A = List Quoted} (record { quote = q; content = c ∷ take n x } ∷ quoted_runs (drop n x)) (run_of q (c ∷ x) (1 + n))
@@ -90,51 +84,6 @@ pub first_run : (c : ℕ) (x : List ℕ) → quoted_runs (c ∷ x) ≡ run_of (q
 first_run c [] = alone_grows (is_apostrophe c) c refl
 first_run c (d ∷ x) = ap (add c) (first_run d x) ∙ grows (is_apostrophe c) (is_apostrophe d) c d x refl refl (first_run d x)
 
-pub listed_further : (q : Quoted) (qs : List Quoted) → listed (q ∷ qs) ≡ quoted q ++ further qs
-listed_further q [] = sym (append-nil (quoted q))
-listed_further q (r ∷ rs) = refl
-
--- the run that begins at a place, from its first byte
-pub writes : (text : List ℕ) (from to c q : ℕ) (p : ℕ → Bool) (before now : List ℕ) → from < length text → c ≡ slice_index text from → same_quote c ≡ p → quote_of c ≡ q
-    → to ≡ run_end p text from → from < to → to ≤ length text → IsPlace text to → now ≡ before ++ (q ∷ (slice_range text from to ++ (q ∷ []))) → WritesRun text from to before now
-writes text from to c q p before now lt at same quote end moves within place written =
-    let front : drop from text ≡ c ∷ drop (suc from) text = drop-cons text from 0 lt ∙ ap (λ b. b ∷ drop (suc from) text) (sym at) in
-    let n : prefix_len (same_quote c) (drop from text) ≡ to - from = ap (λ r. prefix_len r (drop from text)) same ∙ omega (arith, end) in
-    let runs : quoted_runs (drop from text) ≡ run_of (quote_of c) (drop from text) (prefix_len (same_quote c) (drop from text)) =
-    (let P : List ℕ → Type 0 = λ x. quoted_runs x ≡ run_of (quote_of c) x (prefix_len (same_quote c) x) in subst P (sym front) (first_run c (drop (suc from) text))) in
-    let rest : drop (to - from) (drop from text) ≡ drop to text = drop-drop (to - from) from text ∙ ap (λ k. drop k text) (omega arith) in
-    record {
-      run = record { quote = q; content = slice_range text from to };
-      first = runs ∙ ap (run_of (quote_of c) (drop from text)) n ∙ ap (λ k. record { quote = k; content = take (to - from) (drop from text) } ∷ quoted_runs (drop (to - from) (drop from text))) quote
-          ∙ ap (λ r. record { quote = q; content = take (to - from) (drop from text) } ∷ quoted_runs r) rest;
-      written = written;
-      moves = moves;
-      within = within;
-      place = place;
-    }
-
--- one more run is written
-pub one_further : (text : List ℕ) (from to : ℕ) (start before mid now : List ℕ) → before ++ further (quoted_runs (drop from text)) ≡ start → mid ≡ before ++ codes ", "
-    → WritesRun text from to mid now → now ++ further (quoted_runs (drop to text)) ≡ start
-one_further text from to start before mid now h m w =
-    ap (λ t. t ++ further (quoted_runs (drop to text))) (w.written ∙ ap (λ t. t ++ quoted w.run) m)
-    ∙ append_assoc (before ++ codes ", ") (quoted w.run) (further (quoted_runs (drop to text)))
-    ∙ append_assoc before (codes ", ") (quoted w.run ++ further (quoted_runs (drop to text)))
-    ∙ ap (λ t. before ++ (codes ", " ++ t)) (sym (listed_further w.run (quoted_runs (drop to text))))
-    ∙ ap (λ qs. before ++ further qs) (sym w.first) ∙ h
-
--- and so is the first
-pub first_written : (text : List ℕ) (to : ℕ) (before now : List ℕ) → WritesRun text 0 to before now → now ++ further (quoted_runs (drop to text)) ≡ before ++ listed (quoted_runs text)
-first_written text to before now w =
-    ap (λ t. t ++ further (quoted_runs (drop to text))) w.written
-    ∙ append_assoc before (quoted w.run) (further (quoted_runs (drop to text)))
-    ∙ ap (λ t. before ++ t) (sym (listed_further w.run (quoted_runs (drop to text))) ∙ ap listed (sym w.first))
-
--- none is left at the end
-pub all_written : (text : List ℕ) (at : ℕ) (now start : List ℕ) → length text ≤ at → now ++ further (quoted_runs (drop at text)) ≡ start → now ≡ start
-all_written text at now start le h =
-    sym (append-nil now) ∙ ap (λ x. now ++ further (quoted_runs x)) (sym (drop_all at text le)) ∙ h
-
 -- a text with both quotes is written as several runs
 pub shown_runs : (x : List ℕ) → list_any is_apostrophe x ≡ true → list_any is_double x ≡ true → literal_text x ≡ codes "concat(" ++ (listed (quoted_runs x) ++ codes ")")
 shown_runs x a d =
@@ -145,28 +94,3 @@ shown_runs x a d =
     several [] h = absurd (omega arith)
     several (q ∷ []) h = absurd (omega arith)
     several (q ∷ (r ∷ rs)) h = refl
-
--- and one with one of them alone
-pub shown_plain : (x : List ℕ) → list_any (λ c. c == 39) x ≡ false → literal_text x ≡ 39 ∷ (x ++ (39 ∷ []))
-shown_plain x a = ap (λ b. shown (cond b (cond (list_any is_double x) (quoted_runs x) (record { quote = 34; content = x } ∷ [])) (record { quote = 39; content = x } ∷ []))) a
-
-pub shown_double : (x : List ℕ) → list_any (λ c. c == 39) x ≡ true → list_any (λ c. c == 34) x ≡ false → literal_text x ≡ 34 ∷ (x ++ (34 ∷ []))
-shown_double x a d =
-    ap (λ b. shown (cond b (cond (list_any is_double x) (quoted_runs x) (record { quote = 34; content = x } ∷ [])) (record { quote = 39; content = x } ∷ []))) a
-    ∙ ap (λ b. shown (cond b (quoted_runs x) (record { quote = 34; content = x } ∷ []))) d
-
--- the places of apostrophes
-pub one_apostrophe : (text : List ℕ) (from at : ℕ) → IsUtf8 text → at < length text → slice_index text at ≡ 39 → run_end is_apostrophe text from ≡ run_end is_apostrophe text at
-    → from ≤ at → InApostrophes text from (at + 1)
-one_apostrophe text from at utf8 lt is end le =
-    let here : is_apostrophe (slice_index text at) ≡ true = ap is_apostrophe is in
-    let ascii : slice_index text at < 128 = omega arith in
-    record {
-      same_end = end ∙ run_end_step is_apostrophe text at lt here;
-      moves = omega arith;
-      within = omega arith;
-      place = past_ascii text at utf8 lt ascii;
-    }
-
-pub other_byte : (b : ℕ) → (b ≡ 39 → ⊥) → is_apostrophe b ≡ false
-other_byte b h = grind (arith, nat_tests)
