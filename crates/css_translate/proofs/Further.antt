@@ -10,7 +10,7 @@ use Rattle.css_meaning.specs.declared.selector.Simple.{Simple}
 use Rattle.css_meaning.specs.declared.selector.Test.{Test}
 use Rattle.css_meaning.specs.declared.selector.Test.TheVariants as test
 use Rattle.css_meaning.specs.WellMade.{FitsTest, IsPart, IsSelector, WellMade}
-use Rattle.css_translate.specs.Printed.{joined, selector_text}
+use Rattle.css_printed.specs.Printed.{joined, selector_text}
 use Rattle.css_translate.specs.Inner.{further_text}
 use Rattle.css_translate.specs.Small.{IsSmallTest, IsSmallSimple, IsSmallPart, IsSmallSelector}
 

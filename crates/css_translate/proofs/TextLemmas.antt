@@ -9,7 +9,7 @@ use Rattle.std.proofs.lemmas.List.Elements.{All-cons, All-nil}
 use Rattle.css_meaning.specs.declared.selector.Part.{Part}
 use Rattle.css_meaning.specs.declared.selector.Selector.{Selector}
 use Rattle.css_meaning.specs.declared.selector.SelectorList.{SelectorList}
-use Rattle.css_translate.specs.Texts.{IsSimpleText, IsPartText, IsSelectorText, AreTexts}
+use Rattle.css_printed.specs.Texts.{IsSimpleText, IsPartText, IsSelectorText, AreTexts}
 use Rattle.css_translate.specs.Read.{IsReadPart, IsReadSelector}
 
 pub scalar_chars : (bs : List ℕ) → IsUtf8 bs → scalars (chars bs) ≡ true

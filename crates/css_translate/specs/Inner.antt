@@ -3,8 +3,8 @@ use Rattle.std.specs.Prelude.{ℕ, List, ◌++◌, Option, codes}
 use Rattle.css_meaning.specs.declared.selector.Dialect.{Dialect}
 use Rattle.css_meaning.specs.declared.selector.Selector.{Selector}
 use Rattle.css_meaning.specs.declared.selector.Test.{Test}
-use Rattle.css_translate.specs.Printed.{selector_text}
-use Rattle.css_translate.specs.Simples.{test_text}
+use Rattle.css_printed.specs.Printed.{selector_text}
+use Rattle.css_printed.specs.Simples.{test_text}
 
 -- the negation of a test that is no name
 abbrev pub negation_text : Dialect → Option (List ℕ) → Test → List ℕ

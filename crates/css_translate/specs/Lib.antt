@@ -1,17 +1,5 @@
-pub mod Conditions
-pub mod Examples
-pub mod Expression
 pub mod Inner
-pub mod LiteralLaw
-pub mod Literals
-pub mod Names
-pub mod Plain
-pub mod Predicates
-pub mod Printed
-pub mod Promise
 pub mod Read
 pub mod Rows
 pub mod Runs
-pub mod Simples
 pub mod Small
-pub mod Texts

@@ -2,7 +2,7 @@
 use Rattle.std.specs.List.{AllByRecursion}
 use Rattle.css_meaning.specs.declared.selector.Part.{Part}
 use Rattle.css_meaning.specs.declared.selector.Selector.{Selector}
-use Rattle.css_translate.specs.Texts.{IsElementText, IsSimpleText, IsTailText}
+use Rattle.css_printed.specs.Texts.{IsElementText, IsSimpleText, IsTailText}
 
 abbrev pub IsReadPart : Part → Type 0
 IsReadPart p = IsElementText p.element × AllByRecursion IsSimpleText p.simples

@@ -1,7 +1,7 @@
 -- What the functions that print a literal's runs answer. These definitions serve no public contract.
 use Rattle.std.specs.Prelude.{◌≡◌, ℕ, ◌<◌, ◌≤◌, List, [], ◌∷◌, ◌++◌, length, drop, codes}
 use Rattle.text_base.specs.Text.{IsPlace, run_end}
-use Rattle.css_translate.specs.Literals.{is_apostrophe, Quoted, quoted_runs, quoted, listed}
+use Rattle.css_printed.specs.Literals.{is_apostrophe, Quoted, quoted_runs, quoted, listed}
 
 -- the run that begins at a place ends at the other, and was written behind what stood there
 pub record WritesRun (text : List ℕ) (from to : ℕ) (before now : List ℕ) : Type 0 where

@@ -5,8 +5,8 @@ ghost use Rattle.std.specs.Str.{chars};
 ghost use Rattle.text_base.specs.Text.{is_space5};
 ghost use Rattle.text_base.specs.Strings.{is_empty};
 ghost use Rattle.css_meaning.specs.declared.selector.Op.TheVariants as op;
-ghost use Rattle.css_translate.specs.Literals.{literal_text};
-ghost use Rattle.css_translate.specs.Simples.{nowhere, op_text, word_text, dash_text, prefix_text, suffix_text, substring_text};
+ghost use Rattle.css_printed.specs.Literals.{literal_text};
+ghost use Rattle.css_printed.specs.Simples.{nowhere, op_text, word_text, dash_text, prefix_text, suffix_text, substring_text};
 
 use crate::literals::{push_literal, push_value};
 use crate::positions::push_decimal;

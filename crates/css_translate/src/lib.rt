@@ -1,9 +1,8 @@
-//! Selectors printed as XPath, and what the printed texts mean.
+//! Selectors printed as XPath.
 #![tactic(auto)]
 
 mod attributes;
 mod languages;
-mod laws;
 mod literals;
 mod names;
 mod positions;
@@ -16,6 +15,5 @@ mod steps;
 mod tests;
 mod texts;
 
-pub use laws::{literals_stand_for_texts, worked_texts};
 pub use literals::literal;
 pub use printing::translate;

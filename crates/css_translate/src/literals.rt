@@ -1,7 +1,7 @@
 ghost use Rattle.std.specs.Prelude.{◌≡◌, ◌≢◌, ◌++◌, ◌<◌, ◌≤◌, ◌⊎◌, ◌||◌, [], ◌∷◌, OnOk, IfOk, length, slice_index, string_bytes, encode_utf8_all, ◌==◌, true, false};
 ghost use Rattle.std.specs.List.{list_any};
 ghost use Rattle.text_base.specs.Text.{IsPlace, run_end, is_not_byte};
-ghost use Rattle.css_translate.specs.Literals.{is_apostrophe, is_double, quoted_runs, quoted, listed, literal_text};
+ghost use Rattle.css_printed.specs.Literals.{is_apostrophe, is_double, quoted_runs, quoted, listed, literal_text};
 ghost use Rattle.css_translate.specs.Runs.{WritesRun, further};
 
 use crate::pushing::push;

@@ -1,7 +1,7 @@
 ghost use Rattle.std.specs.Prelude.{◌≡◌, ◌++◌, OnOk, IfOk, string_bytes, codes};
 ghost use Rattle.std.specs.List.{list_all};
 ghost use Rattle.std.specs.Str.{chars};
-ghost use Rattle.css_translate.specs.Names.{is_plain_start, is_plain_char, is_plain, name_bytes, name_bracket, element_text, attribute_text};
+ghost use Rattle.css_printed.specs.Names.{is_plain_start, is_plain_char, is_plain, name_bytes, name_bracket, element_text, attribute_text};
 
 use crate::literals::push_literal;
 use crate::pushing::push;
@@ -72,7 +72,7 @@ fn push_bracket(
 }
 
 /// `name`, or `*[name() = 'name']`
-#[tactic(auto, using(crate::proofs::NameCases::plain_element, crate::proofs::NameCases::odd_element))]
+#[tactic(auto, using(css_printed::proofs::NameCases::plain_element, css_printed::proofs::NameCases::odd_element))]
 fn push_named(alloc: Global, out: &mut String, dialect: Dialect, name: &Txt) -> Result<(), NoMemory>
     ensures { OnOk result (string_bytes out.new ≡ string_bytes out.old ++ element_text dialect (Some name.now)) }
 {

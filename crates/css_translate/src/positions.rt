@@ -1,8 +1,8 @@
 ghost use Rattle.std.specs.Prelude.{◌≡◌, ◌++◌, ◌≤◌, ◌<◌, OnOk, IfOk, string_bytes, ℤ, pos, ◌-ℤ◌, ◌<ℤ◌, flat_map, codes};
 ghost use Rattle.std.specs.Fmt.{decimal};
 ghost use Rattle.css_meaning.specs.WellMade.{IsSmall};
-ghost use Rattle.css_translate.specs.Conditions.{remainder, never, exactly, at_least, at_most, every, every_from, from_position, conditions};
-ghost use Rattle.css_translate.specs.Simples.{condition_text, siblings_text, nth_text};
+ghost use Rattle.css_printed.specs.Conditions.{remainder, never, exactly, at_least, at_most, every, every_from, from_position, conditions};
+ghost use Rattle.css_printed.specs.Simples.{condition_text, siblings_text, nth_text};
 
 use crate::names::push_element;
 use crate::pushing::push;
@@ -95,7 +95,7 @@ fn remainder_before(b: i64, n: u64) -> u64
 }
 
 /// Appends the condition that every n-th is, from the position b, where n is more than 1.
-#[tactic(auto, using(crate::proofs::ConditionCases::every_second, crate::proofs::ConditionCases::every_one))]
+#[tactic(auto, using(css_printed::proofs::ConditionCases::every_second, css_printed::proofs::ConditionCases::every_one))]
 fn push_every_from(
     alloc: Global,
     out: &mut String,
@@ -116,7 +116,7 @@ fn push_every_from(
 }
 
 /// Appends the condition of the positions from b on, where b is more than 1.
-#[tactic(auto, using(crate::proofs::ConditionCases::from_second, crate::proofs::ConditionCases::from_first))]
+#[tactic(auto, using(css_printed::proofs::ConditionCases::from_second, css_printed::proofs::ConditionCases::from_first))]
 fn push_from(alloc: Global, out: &mut String, siblings: &str, b: i64) -> Result<(), NoMemory>
     requires small { IsSmall b }
     ensures { OnOk result (string_bytes out.new ≡ string_bytes out.old ++ flat_map (condition_text siblings.now) (from_position b)) }
@@ -129,7 +129,7 @@ fn push_from(alloc: Global, out: &mut String, siblings: &str, b: i64) -> Result<
 }
 
 /// Appends the condition of one position.
-#[tactic(auto, using(crate::proofs::ConditionCases::one_position, crate::proofs::ConditionCases::no_position))]
+#[tactic(auto, using(css_printed::proofs::ConditionCases::one_position, css_printed::proofs::ConditionCases::no_position))]
 fn push_one(alloc: Global, out: &mut String, siblings: &str, b: i64) -> Result<(), NoMemory>
     requires small { IsSmall b }
     ensures { OnOk result (string_bytes out.new ≡ string_bytes out.old ++ flat_map (condition_text siblings.now) (conditions (pos 0) b)) }

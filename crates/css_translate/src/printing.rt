@@ -1,9 +1,9 @@
 ghost use Rattle.std.specs.Prelude.{◌≡◌, ◌++◌, ◌≤◌, ◌<◌, ◌⊎◌, OnOk, IfOk, IfErr, flat_map, map, length, string_bytes};
 ghost use Rattle.std.specs.List.{AllByRecursion};
 ghost use Rattle.css_meaning.specs.WellMade.{WellMade};
-ghost use Rattle.css_translate.specs.Printed.{joined, part_text, tail_text, parts_text, selector_text, printed};
-ghost use Rattle.css_translate.specs.Promise.{KeepsMeaning};
-ghost use Rattle.css_translate.specs.Simples.{simple_text};
+ghost use Rattle.css_printed.specs.Printed.{joined, part_text, tail_text, parts_text, selector_text, printed};
+ghost use Rattle.css_printed.specs.Promise.{KeepsMeaning};
+ghost use Rattle.css_printed.specs.Simples.{simple_text};
 ghost use Rattle.css_translate.specs.Inner.{further_text};
 ghost use Rattle.css_translate.specs.Small.{IsSmallSimple, IsSmallPart, IsSmallSelector};
 

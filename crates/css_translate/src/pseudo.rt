@@ -1,6 +1,6 @@
 ghost use Rattle.std.specs.Prelude.{◌≡◌, ◌++◌, OnOk, string_bytes};
 ghost use Rattle.css_meaning.specs.declared.selector.Pseudo.TheVariants as pseudo;
-ghost use Rattle.css_translate.specs.Simples.{html_text, pseudo_text};
+ghost use Rattle.css_printed.specs.Simples.{html_text, pseudo_text};
 
 use crate::positions::push_nth;
 use crate::pushing::push;

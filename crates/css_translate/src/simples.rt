@@ -2,8 +2,8 @@ ghost use Rattle.std.specs.Prelude.{◌≡◌, ◌++◌, OnOk, string_bytes};
 ghost use Rattle.css_meaning.specs.declared.selector.Test.TheVariants as test;
 ghost use Rattle.css_translate.specs.Inner.{negation_text};
 ghost use Rattle.css_translate.specs.Small.{IsSmallTest, IsSmallSimple};
-ghost use Rattle.css_translate.specs.Names.{attribute_text};
-ghost use Rattle.css_translate.specs.Simples.{op_text, test_text, negated_text, simple_text};
+ghost use Rattle.css_printed.specs.Names.{attribute_text};
+ghost use Rattle.css_printed.specs.Simples.{op_text, test_text, negated_text, simple_text};
 
 use crate::attributes::{push_op, push_word};
 use crate::languages::push_lang;
@@ -46,7 +46,7 @@ fn push_id(
 }
 
 /// `[@class and contains(concat(' ', normalize-space(@class), ' '), ' x ')]`
-#[tactic(auto, using(crate::proofs::NameCases::class_attribute))]
+#[tactic(auto, using(css_printed::proofs::NameCases::class_attribute))]
 fn push_class(
     alloc: Global,
     out: &mut String,

@@ -1,5 +1,5 @@
 ghost use Rattle.std.specs.Prelude.{◌≡◌, ◌++◌, OnOk, string_bytes};
-ghost use Rattle.css_translate.specs.Printed.{step_text, next_text};
+ghost use Rattle.css_printed.specs.Printed.{step_text, next_text};
 
 use crate::names::push_element;
 use crate::pushing::push;

@@ -1,5 +1,5 @@
 ghost use Rattle.std.specs.List.{AllByRecursion};
-ghost use Rattle.css_translate.specs.Texts.{IsText, IsElementText, IsTestText, IsSimpleText, IsTailText, AreTexts};
+ghost use Rattle.css_printed.specs.Texts.{IsText, IsElementText, IsTestText, IsSimpleText, IsTailText, AreTexts};
 ghost use Rattle.css_translate.specs.Read.{IsReadPart, IsReadSelector};
 
 use css_meaning::{Part, Selector, SelectorList, Simple, Tail, Test};

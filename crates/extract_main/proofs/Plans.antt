@@ -15,7 +15,7 @@ use Rattle.css_meaning.specs.declared.selector.Dialect.TheVariants.{Html}
 use Rattle.css_meaning.specs.declared.selector.SelectorList.{SelectorList}
 use Rattle.css_parser.specs.Selecting.{Accepts}
 use Rattle.css_parser.proofs.SelectingLemmas.{one_reading as one_list}
-use Rattle.css_translate.specs.Printed.{printed}
+use Rattle.css_printed.specs.Printed.{printed}
 use Rattle.query_script.specs.declared.script.Field.{Field}
 use Rattle.query_script.specs.Fields.{IsScript, IsScriptFault}
 use Rattle.json_lines.specs.Lines.{css_text, reason_text}

@@ -7,8 +7,8 @@ use Rattle.text_base.specs.declared.reasons.SelectorFault.TheVariants as fault
 use Rattle.css_meaning.specs.declared.selector.Dialect.{Dialect}
 use Rattle.css_meaning.specs.declared.selector.SelectorList.{SelectorList}
 use Rattle.css_parser.specs.Selecting.{Accepts, IsFault}
-use Rattle.css_translate.specs.Printed.{printed}
-use Rattle.css_translate.specs.Promise.{KeepsMeaning}
+use Rattle.css_printed.specs.Printed.{printed}
+use Rattle.css_printed.specs.Promise.{KeepsMeaning}
 use Rattle.extract_main.specs.CssLines.{IsKept, IsRefusedFor, IsXPathLong}
 use Rattle.extract_main.specs.Laws.{OneReading}
 use Rattle.json_lines.specs.Lines.{IsSmall}

@@ -6,8 +6,8 @@ use Rattle.text_base.specs.Reasons.{selector_word}
 use Rattle.css_meaning.specs.declared.selector.Dialect.{Dialect}
 use Rattle.css_meaning.specs.declared.selector.SelectorList.{SelectorList}
 use Rattle.css_parser.specs.Selecting.{Accepts, IsFault}
-use Rattle.css_translate.specs.Printed.{printed}
-use Rattle.css_translate.specs.Promise.{KeepsMeaning}
+use Rattle.css_printed.specs.Printed.{printed}
+use Rattle.css_printed.specs.Promise.{KeepsMeaning}
 use Rattle.json_lines.specs.Lines.{css_text, reason_text}
 use Rattle.extract_main.specs.Answers.{Answer}
 

@@ -11,7 +11,7 @@ use Rattle.css_meaning.specs.declared.selector.Dialect.{Dialect}
 use Rattle.css_meaning.specs.declared.selector.SelectorList.{SelectorList}
 use Rattle.css_parser.specs.Selecting.{Accepts, IsFault}
 use Rattle.css_parser.proofs.Existence.{each_list_or_fault}
-use Rattle.css_translate.specs.Printed.{printed}
+use Rattle.css_printed.specs.Printed.{printed}
 use Rattle.xpath_parser.specs.Laws.{IsRead, IsRefused as IsXPathRefusal}
 use Rattle.xpath_parser.specs.Reading.{most_bytes as most_xpath}
 use Rattle.xpath_parser.specs.Shapes.{is_nodes, shape_of}

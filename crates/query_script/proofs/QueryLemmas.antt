@@ -9,8 +9,8 @@ use Rattle.text_base.proofs.Text.{encode-chars}
 use Rattle.css_meaning.specs.declared.selector.Dialect.{Dialect}
 use Rattle.css_meaning.specs.declared.selector.SelectorList.{SelectorList}
 use Rattle.css_parser.specs.Selecting.{Accepts, IsUnlisted}
-use Rattle.css_translate.specs.Printed.{printed}
-use Rattle.css_translate.specs.Promise.{KeepsMeaning}
+use Rattle.css_printed.specs.Printed.{printed}
+use Rattle.css_printed.specs.Promise.{KeepsMeaning}
 use Rattle.xpath_parser.specs.declared.expression.Expr.{Expr}
 use Rattle.xpath_parser.specs.Reading.{ReadsAs, most_bytes}
 use Rattle.xpath_parser.specs.Shapes.{is_nodes, shape_of}

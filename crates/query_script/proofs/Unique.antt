@@ -11,7 +11,7 @@ use Rattle.css_meaning.specs.declared.selector.Dialect.{Dialect}
 use Rattle.css_meaning.specs.declared.selector.SelectorList.{SelectorList}
 use Rattle.css_parser.specs.Selecting.{Accepts, IsFault}
 use Rattle.css_parser.proofs.SelectingLemmas.{one_reading, one_fault, list_or_fault}
-use Rattle.css_translate.specs.Printed.{printed}
+use Rattle.css_printed.specs.Printed.{printed}
 use Rattle.xpath_parser.specs.declared.expression.Expr.{Expr}
 use Rattle.xpath_parser.specs.Reading.{ReadsAs}
 use Rattle.xpath_parser.specs.Faults.{IsXPathFault}

@@ -6,7 +6,7 @@ use Rattle.text_base.specs.declared.reasons.SelectorFault.TheVariants as fault
 use Rattle.css_meaning.specs.declared.selector.Dialect.{Dialect}
 use Rattle.css_meaning.specs.declared.selector.SelectorList.{SelectorList}
 use Rattle.css_parser.specs.Selecting.{Accepts, IsFault}
-use Rattle.css_translate.specs.Printed.{printed}
+use Rattle.css_printed.specs.Printed.{printed}
 use Rattle.xpath_parser.specs.declared.expression.Expr.{Expr}
 use Rattle.xpath_parser.specs.Faults.{IsXPathFault}
 use Rattle.xpath_parser.specs.Reading.{ReadsAs, most_bytes}

@@ -1,5 +1,5 @@
 use Rattle.std.proofs.Common.{◌≡◌, ◌<◌, ℕ, List, length, slice_index, arith, refl, ap, ◌∙◌, subst, sym}
-use Rattle.css_translate.proofs.LiteralRuns.{one_apostrophe}
+use Rattle.css_translate.proofs.WrittenRuns.{one_apostrophe}
 use Rattle.css_translate.proofs.literals.apostrophes_end.Goals as goal
 
 pub loop-at-init : goal.loop-at-init

@@ -1,4 +1,4 @@
-use Rattle.css_translate.proofs.LiteralRuns.{byte_test}
+use Rattle.css_printed.proofs.LiteralRuns.{byte_test}
 use Rattle.css_translate.proofs.literals.has_byte.Goals as goal
 
 pub returns : goal.returns

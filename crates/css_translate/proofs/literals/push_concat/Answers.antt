@@ -1,6 +1,6 @@
 use Rattle.std.proofs.Common.{codes, sym, subst, ◌≡◌, ◌++◌, List, ℕ, OnOk, string_bytes}
-use Rattle.css_translate.specs.Literals.{listed, quoted_runs, literal_text}
-use Rattle.css_translate.proofs.LiteralRuns.{shown_runs}
+use Rattle.css_printed.specs.Literals.{listed, quoted_runs, literal_text}
+use Rattle.css_printed.proofs.LiteralRuns.{shown_runs}
 use Rattle.css_translate.proofs.Pushes.{three}
 use Rattle.css_translate.proofs.literals.push_concat.Goals as goal
 

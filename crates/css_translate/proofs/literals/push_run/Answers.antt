@@ -2,8 +2,8 @@ use Rattle.std.proofs.Common.{◌≡◌, refl, ℕ, [], ◌∷◌, ◌++◌, fal
 use Rattle.std.specs.Prelude.{not}
 use Rattle.text_base.specs.Text.{is_not_byte}
 use Rattle.text_base.proofs.Runs.{run_end_moves}
-use Rattle.css_translate.specs.Literals.{is_apostrophe}
-use Rattle.css_translate.proofs.LiteralRuns.{writes, other_byte}
+use Rattle.css_printed.specs.Literals.{is_apostrophe}
+use Rattle.css_translate.proofs.WrittenRuns.{writes, other_byte}
 use Rattle.css_translate.proofs.literals.push_run.Goals as goal
 
 pub returns-in_ok-push_quoted : goal.returns-in_ok-push_quoted

@@ -1,6 +1,6 @@
 use Rattle.std.proofs.Common.{◌≡◌, ◌++◌, ◌≤◌, ◌-◌, length, drop, string_bytes}
 use Rattle.text_base.specs.Text.{IsPlace}
-use Rattle.css_translate.specs.Literals.{quoted_runs, listed}
+use Rattle.css_printed.specs.Literals.{quoted_runs, listed}
 use Rattle.css_translate.specs.Runs.{further}
 use Rattle.css_translate.proofs.literals.push_runs.Given as goal
 

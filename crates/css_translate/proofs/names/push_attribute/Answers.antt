@@ -1,6 +1,6 @@
 use Rattle.std.proofs.Common.{codes, sym, ◌∙◌}
 use Rattle.css_translate.proofs.Pushes.{two, same_piece}
-use Rattle.css_translate.proofs.NameCases.{plain_attribute, odd_attribute}
+use Rattle.css_printed.proofs.NameCases.{plain_attribute, odd_attribute}
 use Rattle.css_translate.proofs.names.push_attribute.Goals as goal
 
 pub returns-in_ok-push : goal.returns-in_ok-push

@@ -1,5 +1,5 @@
 use Rattle.std.proofs.Common.{codes, sym, ap}
-use Rattle.css_translate.specs.Simples.{siblings_text}
+use Rattle.css_printed.specs.Simples.{siblings_text}
 use Rattle.css_translate.proofs.Pushes.{two, same_piece}
 use Rattle.css_translate.proofs.positions.push_siblings.Goals as goal
 

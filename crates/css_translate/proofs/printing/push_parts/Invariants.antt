@@ -1,5 +1,5 @@
 use Rattle.std.proofs.Common.{◌≡◌, ◌++◌, take, string_bytes}
-use Rattle.css_translate.specs.Printed.{parts_text}
+use Rattle.css_printed.specs.Printed.{parts_text}
 use Rattle.css_translate.proofs.printing.push_parts.Given as goal
 
 abbrev pub invariant-loop-part : goal.invariant-loop-part

@@ -1,6 +1,6 @@
 use Rattle.std.proofs.Common.{◌≡◌, ◌++◌, take, string_bytes}
 use Rattle.std.specs.List.{flat_map}
-use Rattle.css_translate.specs.Simples.{simple_text}
+use Rattle.css_printed.specs.Simples.{simple_text}
 use Rattle.css_translate.proofs.printing.push_simples.Given as goal
 
 abbrev pub invariant-loop-simple : goal.invariant-loop-simple

@@ -1,7 +1,7 @@
 use Rattle.std.proofs.Common.{◌≡◌, ◌≤◌, length, string_bytes, arith, rules}
 use Rattle.xpath_parser.specs.Reading.{most_bytes}
-use Rattle.css_translate.specs.Printed.{printed}
-use Rattle.css_translate.proofs.Theorem.{keeps_meaning}
+use Rattle.css_printed.specs.Printed.{printed}
+use Rattle.css_printed.proofs.Theorem.{keeps_meaning}
 use Rattle.css_translate.proofs.printing.translate.Goals as goal
 
 pub returns-else-len-gt-MOST_BYTES-clause-meaning :

@@ -1,0 +1,12 @@
+pub mod Conditions
+pub mod Examples
+pub mod Expression
+pub mod LiteralLaw
+pub mod Literals
+pub mod Names
+pub mod Predicates
+pub mod Printed
+pub mod PrintedLaw
+pub mod Promise
+pub mod Simples
+pub mod Texts
