@@ -5,6 +5,7 @@ ghost use Rattle.css_printed.specs.Printed.{joined, part_text, tail_text, parts_
 ghost use Rattle.css_printed.specs.Promise.{KeepsMeaning};
 ghost use Rattle.css_printed.specs.Simples.{simple_text};
 ghost use Rattle.css_translate.specs.Inner.{further_text};
+ghost use Rattle.xpath_parser.specs.Reading.{most_bytes};
 ghost use Rattle.css_translate.specs.Small.{IsSmallSimple, IsSmallPart, IsSmallSelector};
 
 use crate::names::push_attribute;
@@ -152,9 +153,9 @@ pub fn translate(
     requires { WellMade list.now }
     ensures text { IfOk result (λ t. string_bytes t ≡ printed dialect list.now) }
     ensures meaning { IfOk result (λ t. KeepsMeaning dialect list.now (string_bytes t)) }
-    ensures short { IfOk result (λ t. length (string_bytes t) ≤ MOST_BYTES) }
+    ensures short { IfOk result (λ t. length (string_bytes t) ≤ most_bytes) }
     ensures fault { IfErr result (λ e. (e ≡ SelectorFault.Memory) ⊎ (e ≡ SelectorFault.XPathLong)) }
-    ensures long { result ≡ Err SelectorFault.XPathLong → MOST_BYTES < length (printed dialect list.now) }
+    ensures long { result ≡ Err SelectorFault.XPathLong → most_bytes < length (printed dialect list.now) }
 {
     read_list(list);
     match print_list(alloc, dialect, list) {
