@@ -1,8 +1,8 @@
 -- The walks from sibling to sibling.
-use Rattle.std.proofs.Common.{◌≡◌, refl, ℕ, zero, suc, ◌+◌, ◌<◌, ◌≤◌, List, [], ◌∷◌, ◌++◌, length, Bool, true, false, ◌&&◌, ◌||◌, cond, ltb, eqb, sym, ◌∙◌, ap, subst, arith, inl, inr, lt-ltb, ◌⊎◌}
+use Rattle.std.proofs.Common.{◌≡◌, refl, ℕ, zero, suc, ◌+◌, ◌<◌, ◌≤◌, List, length, Bool, true, false, ◌&&◌, ◌||◌, cond, ltb, eqb, sym, ◌∙◌, ap, subst, arith, inl, inr, lt-ltb, ◌⊎◌}
 use Rattle.std.specs.Prelude.{filter, not}
 use Rattle.std.specs.List.{list_any, range_with_len}
-use Rattle.std.proofs.lemmas.Bool.{and_left, and_right, cases_lt, le-ltb, and_parts, false_from_ne_true, both_ways, ltb-true, eqb-true, not_from_false, eq-eqb, not_from_true}
+use Rattle.std.proofs.lemmas.Bool.{and_left, and_right, cases_lt, le-ltb, false_from_ne_true, both_ways}
 use Rattle.doc_model.specs.Document.{Row, Document, row, rows, is_element, is_text, is_parent, IsDocument}
 use Rattle.doc_model.specs.Ends.{IsEnd}
 use Rattle.doc_model.proofs.Below.{small, past_end, below_parent}
@@ -11,8 +11,7 @@ use Rattle.doc_model.proofs.Filters.{upto_more, upto_none, upto_all}
 use Rattle.doc_model.proofs.WalkSteps.{one_if}
 use Rattle.css_meaning.specs.declared.selector.Nth.{Nth}
 use Rattle.css_meaning.specs.declared.selector.Nth.TheVariants as nth
-use Rattle.css_meaning.specs.Siblings.{is_sibling, is_of_type, is_only, position}
-use Rattle.css_meaning.specs.Simples.{is_empty_element}
+use Rattle.css_meaning.specs.Siblings.{is_sibling, position}
 use Rattle.css_meaning.specs.SiblingWalks.{is_like, is_by_name, is_on_side, is_counted, IsSpan, IsBehind}
 use Rattle.css_meaning.proofs.Finding.{found, finds}
 

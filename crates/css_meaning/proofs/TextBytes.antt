@@ -1,12 +1,12 @@
 -- A text contains another where the bytes of the one contain those of the other: no byte inside a character begins one.
-use Rattle.std.proofs.Common.{◌≡◌, refl, ℕ, ◌+◌, ◌<◌, ◌/◌, ◌%◌, ◌≤◌, Bool, true, false, ◌&&◌, ◌||◌, cond, eqb, leb, ltb, List, [], ◌∷◌, ◌++◌, sym, ◌∙◌, ap, subst, arith, inl, inr, ◌⊎◌, append_assoc, encode_utf8_all}
+use Rattle.std.proofs.Common.{◌≡◌, refl, ℕ, ◌+◌, ◌<◌, ◌/◌, ◌%◌, ◌≤◌, Bool, true, false, ◌&&◌, ◌||◌, leb, ltb, List, [], ◌∷◌, ◌++◌, sym, ◌∙◌, ap, arith, inl, inr, append_assoc, encode_utf8_all}
 use Rattle.std.specs.Prelude.{encode_utf8}
-use Rattle.std.proofs.lemmas.Bool.{and_left, and_right, and_from, cond-true, cond-false, and_parts, or_from, cases_lt, ltb-true, leb-true, le-leb, lt-ltb, lt-leb, le-ltb, ne_eqb, cases_Bool, both_ways}
+use Rattle.std.proofs.lemmas.Bool.{and_left, and_right, and_from, cond-true, cond-false, and_parts, or_from, cases_lt, le-leb, lt-ltb, lt-leb, le-ltb, ne_eqb, both_ways}
 use Rattle.std.proofs.lemmas.Str.{encodes-append, cons_from_encodes}
 use Rattle.text_base.specs.Strings.{starts_with, contains}
 use Rattle.css_meaning.specs.Parts.{Begins}
 use Rattle.css_meaning.specs.TextPlaces.{begins_in}
-use Rattle.css_meaning.proofs.ListTests.{or_false, or_true, and_assoc}
+use Rattle.css_meaning.proofs.ListTests.{or_false}
 use Rattle.css_meaning.proofs.Values.{begins_means}
 use lib.Utf8.{encode}
 
@@ -70,24 +70,27 @@ spelling c = elim (cases_lt c 128) [
   | inl one ↦ record { first = c; inner = []; is = cond-true (ltb c 128) _ _ (lt-ltb c 128 one); starts = below_inner c one; follows = refl }
   | inr more ↦ elim (cases_lt c 2048) [
     | inl two ↦ record {
-        first = 192 + c / 64; inner = (128 + c % 64) ∷ [];
-        is = cond-false (ltb c 128) _ _ (le-ltb c 128 more) ∙ cond-true (ltb c 2048) _ _ (lt-ltb c 2048 two);
-        starts = above_inner 192 (c / 64) (omega arith);
-        follows = inner_more c [] refl;
-      }
+      first = 192 + c / 64;
+      inner = (128 + c % 64) ∷ [];
+      is = cond-false (ltb c 128) _ _ (le-ltb c 128 more) ∙ cond-true (ltb c 2048) _ _ (lt-ltb c 2048 two);
+      starts = above_inner 192 (c / 64) (omega arith);
+      follows = inner_more c [] refl;
+    }
     | inr most ↦ elim (cases_lt c 65536) [
       | inl three ↦ record {
-          first = 224 + c / 4096; inner = (128 + (c / 64) % 64) ∷ (128 + c % 64) ∷ [];
-          is = cond-false (ltb c 128) _ _ (le-ltb c 128 more) ∙ cond-false (ltb c 2048) _ _ (le-ltb c 2048 most) ∙ cond-true (ltb c 65536) _ _ (lt-ltb c 65536 three);
-          starts = above_inner 224 (c / 4096) (omega arith);
-          follows = inner_more (c / 64) ((128 + c % 64) ∷ []) (inner_more c [] refl);
-        }
+        first = 224 + c / 4096;
+        inner = (128 + (c / 64) % 64) ∷ (128 + c % 64) ∷ [];
+        is = cond-false (ltb c 128) _ _ (le-ltb c 128 more) ∙ cond-false (ltb c 2048) _ _ (le-ltb c 2048 most) ∙ cond-true (ltb c 65536) _ _ (lt-ltb c 65536 three);
+        starts = above_inner 224 (c / 4096) (omega arith);
+        follows = inner_more (c / 64) ((128 + c % 64) ∷ []) (inner_more c [] refl);
+      }
       | inr four ↦ record {
-          first = 240 + c / 262144; inner = (128 + (c / 4096) % 64) ∷ (128 + (c / 64) % 64) ∷ (128 + c % 64) ∷ [];
-          is = cond-false (ltb c 128) _ _ (le-ltb c 128 more) ∙ cond-false (ltb c 2048) _ _ (le-ltb c 2048 most) ∙ cond-false (ltb c 65536) _ _ (le-ltb c 65536 four);
-          starts = above_inner 240 (c / 262144) (omega arith);
-          follows = inner_more (c / 4096) ((128 + (c / 64) % 64) ∷ (128 + c % 64) ∷ []) (inner_more (c / 64) ((128 + c % 64) ∷ []) (inner_more c [] refl));
-        }
+        first = 240 + c / 262144;
+        inner = (128 + (c / 4096) % 64) ∷ (128 + (c / 64) % 64) ∷ (128 + c % 64) ∷ [];
+        is = cond-false (ltb c 128) _ _ (le-ltb c 128 more) ∙ cond-false (ltb c 2048) _ _ (le-ltb c 2048 most) ∙ cond-false (ltb c 65536) _ _ (le-ltb c 65536 four);
+        starts = above_inner 240 (c / 262144) (omega arith);
+        follows = inner_more (c / 4096) ((128 + (c / 64) % 64) ∷ (128 + c % 64) ∷ []) (inner_more (c / 64) ((128 + c % 64) ∷ []) (inner_more c [] refl));
+      }
     ]
   ]
 ]

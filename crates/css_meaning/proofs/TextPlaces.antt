@@ -7,13 +7,13 @@ use Rattle.std.specs.Str.{chars, IsUtf8}
 use Rattle.std.specs.Cmp.Lexicographic.{pointwise}
 use Rattle.std.proofs.lemmas.Bool.{or_left, or_right, or_parts, or_cases, and_right, and_from, and_parts, both_ways, lt-ltb, le-ltb, ne_eqb}
 use Rattle.std.proofs.lemmas.Bool.Decides.{nat_tests}
-use Rattle.std.proofs.lemmas.List.{append-nil, drop_more, drop_all}
+use Rattle.std.proofs.lemmas.List.{drop_more, drop_all}
 use Rattle.std.proofs.lemmas.Str.{encodes-append, encodes-chars, chars-nil}
 use Rattle.text_base.specs.Strings.{starts_with, contains}
 use Rattle.text_base.specs.Text.{first_place, find_where, begins_with}
 use Rattle.doc_model.specs.declared.Kind.{Kind}
 use Rattle.doc_model.specs.declared.Kind.TheVariants.{Attribute, Text, Comment}
-use Rattle.doc_model.specs.Document.{Document, row, rows, is_text, below, IsDocument}
+use Rattle.doc_model.specs.Document.{Document, row, is_text, below, IsDocument}
 use Rattle.doc_model.specs.Ends.{IsEnd}
 use Rattle.doc_model.specs.StringValue.{texts_below, string_value_of}
 use Rattle.doc_model.proofs.Below.{small, not_up}

@@ -1,4 +1,4 @@
-use Rattle.std.proofs.Common.{◌≡◌, ◌+◌, ◌-◌, ◌++◌, ℕ, List, sym, ◌∙◌, ap, arith, length, lt-ltb, drop, Bool, false}
+use Rattle.std.proofs.Common.{◌≡◌, ◌++◌, ℕ, List, sym, ◌∙◌, ap, arith, length, lt-ltb, drop, Bool}
 use Rattle.std.proofs.lemmas.Bool.{le-ltb}
 use Rattle.text_base.specs.Strings.{starts_with}
 use Rattle.text_base.specs.Text.{find_where, begins_with}

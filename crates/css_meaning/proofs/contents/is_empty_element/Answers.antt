@@ -1,6 +1,6 @@
-use Rattle.std.proofs.Common.{◌≡◌, ℕ, false, sym, ◌∙◌, arith, length}
+use Rattle.std.proofs.Common.{◌≡◌, false, sym, ◌∙◌, arith, length}
 use Rattle.std.proofs.lemmas.Bool.{and_from, and_left, and_right}
-use Rattle.css_meaning.proofs.SiblingWalks.{NoneTo, is_content, skipped, past, before, none_more, none_past, none_passes, one_passes}
+use Rattle.css_meaning.proofs.SiblingWalks.{is_content, skipped, past, before, none_more, none_past, none_passes, one_passes}
 use Rattle.css_meaning.proofs.contents.is_empty_element.Goals as goal
 use Rattle.css_meaning.proofs.contents.is_empty_element.Goals.{else-is_parent-via-then-is_parent+else-is_content, else-is_parent-via-else-is_parent}
 

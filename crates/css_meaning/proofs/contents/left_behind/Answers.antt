@@ -1,9 +1,7 @@
-use Rattle.std.proofs.Common.{◌≡◌, ◌&&◌, sym, ◌∙◌, ap, arith, length, take, drop, eqb, ◌-◌}
-use Rattle.std.specs.Cmp.Lexicographic.{pointwise}
+use Rattle.std.proofs.Common.{◌&&◌, sym, ◌∙◌, ap, arith, length, drop, ◌-◌}
 use Rattle.std.proofs.lemmas.List.{take_all, length-drop}
 use Rattle.text_base.specs.Strings.{starts_with}
-use Rattle.css_meaning.proofs.TextBytes.{contains_bytes}
-use Rattle.css_meaning.proofs.TextPlaces.{left_of, texts_are}
+use Rattle.css_meaning.proofs.TextPlaces.{left_of}
 use Rattle.css_meaning.proofs.contents.left_behind.Goals as goal
 
 pub returns-then-eq : goal.returns-then-eq

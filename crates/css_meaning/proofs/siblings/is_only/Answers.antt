@@ -1,7 +1,7 @@
-use Rattle.std.proofs.Common.{◌≡◌, ℕ, false, sym, ◌∙◌, ap, arith, eqb, length}
+use Rattle.std.proofs.Common.{◌≡◌, false, sym, ◌∙◌, arith, length}
 use Rattle.std.proofs.lemmas.Bool.{and_from, and_left, and_right, ne_eqb, eq-eqb, not_from_true, not_from_false}
-use Rattle.css_meaning.proofs.SiblingWalks.{NoneTo, is_other, not_like, skipped, past, before, none_more, none_past, none_passes, one_passes}
-use Rattle.doc_model.specs.Document.{row, is_parent}
+use Rattle.css_meaning.proofs.SiblingWalks.{is_other, not_like, skipped, past, before, none_more, none_past, none_passes, one_passes}
+use Rattle.doc_model.specs.Document.{row}
 use Rattle.doc_model.specs.Ends.{IsEnd}
 use Rattle.std.proofs.Common.{subst}
 use Rattle.css_meaning.proofs.siblings.is_only.Goals as goal

@@ -20,8 +20,8 @@ loop-y-preserved g c =
     let s = c.span_of-span in
     let i = c.loop-y.invariant in
     let more : count_to doc c.args.kind c.args.e c.end-y.result ≡ count_to doc c.args.kind c.args.e c.loop-y.y + c.one_if-position.result = count_more doc c.args.kind c.args.e s.result.from s.result.to c.loop-y.y c.end-y.result c.is_like.result c.one_if-position.result
-        (g.met.T.Tree.is_document c.args.tree.now) s.ensures i.from c.loop-y-test.true c.end-y.ensures
-        (c.is_like.ensures ∙ ap (λ b. is_like doc b c.args.e c.loop-y.y) c.is_by_name-by_name.ensures) c.one_if-position.ensures in
+    (g.met.T.Tree.is_document c.args.tree.now) s.ensures i.from c.loop-y-test.true c.end-y.ensures
+    (c.is_like.ensures ∙ ap (λ b. is_like doc b c.args.e c.loop-y.y) c.is_by_name-by_name.ensures) c.one_if-position.ensures in
     record {
       from = omega (arith, i.from, c.end-y.ensures.after);
       within = c.end-y.ensures.within;
