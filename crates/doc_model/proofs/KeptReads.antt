@@ -1,6 +1,6 @@
 -- Rows that are read from those that are kept.
-use Rattle.std.proofs.Common.{◌≡◌, ℕ, zero, suc, ◌+◌, ◌-◌, ◌<◌, List, [], ◌∷◌, map, length, get_or, sym, ◌∙◌, ap, arith}
-use Rattle.doc_model.specs.Document.{Row, no_row, row}
+use Rattle.std.proofs.Common.{◌≡◌, ℕ, zero, suc, ◌+◌, ◌-◌, ◌<◌, List, [], ◌∷◌, map, length, get_or, sym, ap, arith}
+use Rattle.doc_model.specs.Document.{no_row, row}
 use Rattle.doc_model.specs.KeptRows.{Kept, rows_of}
 
 at_item : (rows : List Kept) (k : ℕ) (r : Kept) → r ≡ get_or rows k r → k < length rows → get_or (map (λ (r : Kept). r.row) rows) k no_row ≡ r.row

@@ -5,9 +5,9 @@ use Rattle.std.proofs.lemmas.List.{map_push, length-map, length_push, reverse-ap
 use Rattle.doc_model.specs.declared.Kind.{Kind}
 use Rattle.doc_model.specs.declared.Kind.TheVariants.{Element}
 use Rattle.doc_model.specs.Document.{Row, no_row, IsDocument}
-use Rattle.doc_model.specs.Growing.{Growing, growing, innermost, rest_of, element_row, attr_row, text_row, comment_row, with_row, with_element, with_close, AwaitsAttr, AwaitsText, IsGrowing}
+use Rattle.doc_model.specs.Growing.{Growing, growing, innermost, rest_of, element_row, text_row, comment_row, with_row, with_element, with_close, AwaitsText, IsGrowing}
 use Rattle.doc_model.specs.KeptRows.{Kept, rows_of, ends_of, growing_of, AreEnds}
-use Rattle.doc_model.proofs.Grown.{grown_element, grown_attr, grown_text, grown_comment}
+use Rattle.doc_model.proofs.Grown.{grown_element, grown_text, grown_comment}
 use Rattle.doc_model.proofs.Ending.{leaf_ends, element_ends, close_ends}
 
 rows_pushed : (old : List Kept) (r : Kept) → rows_of (old ++ r ∷ []) ≡ rows_of old ++ r.row ∷ []

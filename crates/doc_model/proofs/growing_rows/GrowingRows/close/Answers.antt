@@ -1,6 +1,6 @@
-use Rattle.std.proofs.Common.{◌≡◌, ◌-◌, get_or, subst, sym}
+use Rattle.std.proofs.Common.{◌-◌, subst, sym}
 use Rattle.doc_model.specs.Growing.{IsGrowing}
-use Rattle.doc_model.specs.KeptRows.{Kept, growing_of}
+use Rattle.doc_model.specs.KeptRows.{growing_of}
 use Rattle.doc_model.proofs.Grown.{grown_close}
 use Rattle.doc_model.proofs.Pushed.{closed_growing, closed_keeps, closed_small, same_row}
 use Rattle.doc_model.proofs.growing_rows.GrowingRows.close.Goals as goal

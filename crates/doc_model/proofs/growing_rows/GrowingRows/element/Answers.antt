@@ -1,5 +1,5 @@
-use Rattle.std.proofs.Common.{◌≡◌, ap, subst, sym, arith, ◌∙◌, Result, Ok, Err}
-use Rattle.std.specs.Prelude.{reverse, OnErr}
+use Rattle.std.proofs.Common.{◌≡◌, subst, sym, arith}
+use Rattle.std.specs.Prelude.{reverse}
 use Rattle.doc_model.specs.Growing.{IsGrowing}
 use Rattle.doc_model.specs.KeptRows.{growing_of, rows_of, ends_of, AreEnds}
 use Rattle.doc_model.proofs.Pushed.{same_element, element_made, element_keeps, taken_back}
