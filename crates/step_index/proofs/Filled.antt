@@ -1,6 +1,6 @@
 -- Tables that are filled row by row.
 use Rattle.std.proofs.Common.{◌≡◌, refl, sym, ◌∙◌, ap, ℕ, ◌+◌, ◌≤◌, ◌<◌, Bool, true, false, ◌&&◌, cond, List, ◌∷◌, [], ◌++◌, IsUtf8, arith, Option, Some, None, Result, Ok, Err}
-use Rattle.std.specs.Prelude.{filter, codes, OnOk}
+use Rattle.std.specs.Prelude.{filter, codes, OnOk, OnErr}
 use Rattle.std.specs.Option.{option_map, option_or}
 use Rattle.std.specs.List.{range_with_len, find}
 use Rattle.std.specs.Str.{chars, bytes_eq}
@@ -17,6 +17,10 @@ use Rattle.step_index.proofs.Texts.{key_test, same_literal}
 pub on_ok : {A E P Q : Type 0} (r : Result A E) → (P → Q) → OnOk r P → OnOk r Q
 on_ok (Ok a) f p = f p
 on_ok (Err e) f p = tt
+
+pub on_err_by : {A E P Q : Type 0} (r : Result A E) → (P → Q) → OnErr r P → OnErr r Q
+on_err_by (Ok a) f p = tt
+on_err_by (Err e) f p = f p
 
 -- ---- names
 

@@ -1,5 +1,7 @@
 mod Axes
+mod Counted
 mod Filled
 mod Firsts
 pub mod Places
+mod Siblings
 mod Texts

@@ -1,14 +1,16 @@
 //! Axes that are looked up.
-ghost use Rattle.std.specs.Prelude.{◌≡◌, ◌<◌, ◌≤◌, ◌+◌, ◌-◌, ◌*◌, ◌^◌, ◌++◌, ℕ, [], ◌∷◌, if◌then◌else◌, length, slice_get, OnOk, OnErr, IfOk};
+ghost use Rattle.std.specs.Prelude.{◌≡◌, ◌<◌, ◌≤◌, ◌+◌, ◌-◌, ◌*◌, ◌^◌, ◌++◌, ℕ, [], ◌∷◌, true, if◌then◌else◌, length, slice_get, OnOk, OnErr, IfOk};
 ghost use Rattle.std.specs.List.{find};
 ghost use Rattle.std.specs.Str.{chars};
-ghost use Rattle.doc_model.specs.Document.{rows};
+ghost use Rattle.doc_model.specs.Document.{row, rows, is_element, is_element_kind};
 ghost use Rattle.doc_model.specs.Axes.{axis_list};
 ghost use Rattle.doc_model.specs.RowLists.{IsFront};
 ghost use Rattle.step_index.specs.Named.{has_id, is_named, named, named_before, GrowsByFront};
 ghost use Rattle.step_index.specs.Named as spec;
+ghost use Rattle.step_index.specs.Siblings.{HasChildren, children_before};
 ghost use Rattle.step_index.specs.Tables.{HasNames, HasIds};
 
+use crate::children::Children;
 use crate::ids::Ids;
 use crate::names::Names;
 use crate::steps::Steps;
@@ -24,8 +26,10 @@ pub struct Indexed<T: Tree> {
     tree: T,
     names: Names,
     ids: Ids,
+    children: Children,
     ghost named: { HasNames (T.document tree) names (length (T.document tree)) },
     ghost identified: { HasIds (T.document tree) ids (length (T.document tree)) },
+    ghost counted: { HasChildren (T.document tree) children.ranks.items children.counts.items (length (T.document tree)) },
 }
 
 impl<T: Tree + Drop> Indexed<T> {
@@ -35,7 +39,13 @@ impl<T: Tree + Drop> Indexed<T> {
     {
         let names = Names::of(alloc, &tree)?;
         let ids = Ids::of(alloc, &tree)?;
-        Ok(Indexed { tree, names, ids })
+        let children = Children::of(alloc, &tree)?;
+        Ok(Indexed {
+            tree,
+            names,
+            ids,
+            children,
+        })
     }
 }
 
@@ -190,6 +200,26 @@ impl<T: Tree> Indexed<T> {
         }
         Ok(())
     }
+
+    /// How many elements stand behind an element among its siblings.
+    fn children_behind(&self, x: u32) -> u32
+        requires row { x < length (T.document self.now.tree) }
+        requires element { is_element (T.document self.now.tree) x ≡ true }
+        ensures { children_before (T.document self.now.tree) (is_element (T.document self.now.tree)) (row (T.document self.now.tree) x).parent (length (T.document self.now.tree))
+            ≡ children_before (T.document self.now.tree) (is_element (T.document self.now.tree)) (row (T.document self.now.tree) x).parent x + 1 + result }
+    {
+        let all = self.children.below(self.tree.parent(x));
+        let before = self.children.before(x);
+        all - before - 1
+    }
+}
+
+/// Whether the row is an element.
+fn is_element<T: Tree>(tree: &T, y: u32) -> bool
+    requires { y < length (T.document tree.now) }
+    ensures { result ≡ is_element (T.document tree.now) y }
+{
+    matches!(tree.kind(y), Kind::Element)
 }
 
 /// What stands at a place of the list.
@@ -233,6 +263,15 @@ impl<T: Tree> Axes for Indexed<T> {
     }
 
     fn axis_count(&self, x: u32, axis: Axis, test: &NodeTest) -> u32 {
+        if let NodeTest::AnyName = test {
+            if is_element(&self.tree, x) {
+                match axis {
+                    Axis::PrecedingSibling => return self.children.before(x),
+                    Axis::FollowingSibling => return self.children_behind(x),
+                    _ => {}
+                }
+            }
+        }
         walk_count(&self.tree, x, axis, test)
     }
 }

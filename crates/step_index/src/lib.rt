@@ -1,6 +1,7 @@
 //! Tables over a tree: elements by name and by attribute `id`.
 #![tactic(auto)]
 
+mod children;
 mod ids;
 mod indexed;
 mod names;

@@ -48,7 +48,11 @@ loop-y-preserved g c =
     }
 
 pub returns-clause-ok : goal.returns-clause-ok
-returns-clause-ok g c = let a = c.in_default.is in let b = c.in_default.not-Some in let d = c.in_default.ensures.row in ?
+returns-clause-ok g c =
+    let doc = g.T.Tree.document c.args.self.now.tree in
+    let name = chars c.args.name.now in
+    places.all_found c.args.out.now.items c.loop-y.out.items (named_below doc c.args.x name) (c.loop-y.k - length (named_before doc name (c.args.x + 1)))
+    (places.no_answer doc c.args.x c.end-end.result c.loop-y.k name (g.met.T.Tree.is_document c.args.self.now.tree) c.end-end.ensures c.in_default.ensures.row) c.loop-y.invariant.found
 
 pub returns-clause-cost : goal.returns-clause-cost
 returns-clause-cost g c =
