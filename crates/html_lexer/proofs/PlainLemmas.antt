@@ -45,7 +45,7 @@ pub found_lt : (text : List ℕ) (i j : ℕ) → j ≡ run_end (is_not_byte 60) 
 found_lt text i j found l = is_true _ (subst (λ n. is_not_byte 60 (get_or text n 0) ≡ false) (sym found) (run_end_stops (is_not_byte 60) text i (omega arith)))
 
 module _ (text : List ℕ) where
-  opens_at : (k : ℕ) → opens (drop k text) ≡ ((get_or text k 0 == 60) && is_opener (get_or text (k + 1) 0))
+  pub opens_at : (k : ℕ) → opens (drop k text) ≡ ((get_or text k 0 == 60) && is_opener (get_or text (k + 1) 0))
   opens_at k =
       ap (λ b. (b == 60) && is_opener (get_or (drop k text) 1 0)) (get_or-drop k text 0 0 ∙ ap (λ n. get_or text n 0) (add-zero k))
       ∙ ap (λ b. (get_or text k 0 == 60) && is_opener b) (get_or-drop k text 1 0)

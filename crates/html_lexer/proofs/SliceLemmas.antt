@@ -21,11 +21,11 @@ cond_is : (b : Bool) (x y z : AttrStep) → cond b x y ≡ z → ((b ≡ true) �
 cond_is true x y z h = inl (refl, h)
 cond_is false x y z h = inr (refl, h)
 
-if_true : (b : Bool) (x y z : AttrStep) → b ≡ true → x ≡ z → cond b x y ≡ z
+pub if_true : (b : Bool) (x y z : AttrStep) → b ≡ true → x ≡ z → cond b x y ≡ z
 if_true true x y z h e = e
 if_true false x y z h e = cc
 
-if_false : (b : Bool) (x y z : AttrStep) → b ≡ false → y ≡ z → cond b x y ≡ z
+pub if_false : (b : Bool) (x y z : AttrStep) → b ≡ false → y ≡ z → cond b x y ≡ z
 if_false true x y z h e = cc
 if_false false x y z h e = e
 
@@ -44,26 +44,26 @@ reads_closes i j s a e = cc
 refuses_closes : (r : PageReason) (i j : ℕ) (s : Bool) → Refuses r ≡ Closes i j s → ⊥
 refuses_closes r i j s e = cc
 
-both_true : (a b : Bool) → (a && b) ≡ true → (a ≡ true) × (b ≡ true)
+pub both_true : (a b : Bool) → (a && b) ≡ true → (a ≡ true) × (b ≡ true)
 both_true true b h = (refl, h)
 both_true false b h = cc
 
 true_false : (b : Bool) → b ≡ true → b ≡ false → ⊥
 true_false b h k = cc
 
-ltb_lt : (a b : ℕ) → ltb a b ≡ true → a < b
+pub ltb_lt : (a b : ℕ) → ltb a b ≡ true → a < b
 ltb_lt a b h = grind (arith, nat_tests)
 
 leb_lt : (a b : ℕ) → leb a b ≡ false → b < a
 leb_lt a b h = grind (arith, nat_tests)
 
-lt_ltb : (a b : ℕ) → a < b → ltb a b ≡ true
+pub lt_ltb : (a b : ℕ) → a < b → ltb a b ≡ true
 lt_ltb a b l = grind (arith, nat_tests)
 
-le_leb : (a b : ℕ) → a ≤ b → leb a b ≡ true
+pub le_leb : (a b : ℕ) → a ≤ b → leb a b ≡ true
 le_leb a b l = grind (arith, nat_tests)
 
-lt_leb : (a b : ℕ) → b < a → leb a b ≡ false
+pub lt_leb : (a b : ℕ) → b < a → leb a b ≡ false
 lt_leb a b l = grind (arith, nat_tests)
 
 -- a step goes forward
@@ -108,10 +108,10 @@ module _ (text : List ℕ) where
       ]
 
   -- what a step that reads an attribute has found
-  abbrev closing : ℕ → ℕ → AttrStep
+  abbrev pub closing : ℕ → ℕ → AttrStep
   closing i k = cond (ltb i k && (get_or text (k - 1) 0 == 47)) (Closes (k - 1) (k + 1) true) (Closes k (k + 1) false)
 
-  abbrev reading : ℕ → AttrStep
+  abbrev pub reading : ℕ → AttrStep
   reading k = cond (is_attr_byte (get_or text k 0)) (named text k) (Refuses BadAttribute)
 
   found : (i : ℕ) (a : Attribute) → attr_at text i ≡ Reads a → ((get_or text (run_end is_gap text i) 0 == 62) ≡ false) × (run_end is_gap text i < length text) × (is_attr_byte (get_or text (run_end is_gap text i) 0) ≡ true) × (named text (run_end is_gap text i) ≡ Reads a)

@@ -6,4 +6,5 @@ pub mod Names
 pub mod State
 pub mod Steps
 pub mod Tags
+pub mod TokenLaws
 pub mod Tokens

@@ -5,6 +5,7 @@ ghost use Rattle.html_lexer.specs.Attributes.{Writes, pair_at};
 ghost use Rattle.html_lexer.specs.Tags.{TagReads};
 ghost use Rattle.html_lexer.specs.declared.tags.Attribute.{Attribute};
 ghost use Rattle.html_lexer.specs.Lexing.{Lexes, LexFault, IsWhole};
+ghost use Rattle.html_lexer.specs.TokenLaws.{PlainText, RawText, CommentText, OneStep, WrittenTag, WrittenAttributes};
 
 use crate::lexer::Lexer;
 use crate::tags::AttrStep;
@@ -38,4 +39,17 @@ pub fn one_reading()
 pub fn one_attribute_list()
     ensures page { (text : List ℕ) (n m to : ℕ) (slash : Bool) (attributes : List Attribute) → TagReads text n attributes (AttrStep.Closes m to slash) → Writes (slice_range text n m) 0 (map (pair_at text) attributes) }
     ensures one { (attrs : List ℕ) (ps qs : List (List ℕ × List ℕ)) → Writes attrs 0 ps → Writes attrs 0 qs → ps ≡ qs }
+{}
+
+/// What tokens are. A text token goes up to the first place at which markup begins, or to the end of the page; raw text
+/// goes up to the first end tag of its element; a comment token is its marks and its text, in which no mark stands that
+/// ends a comment; at a place of a page one thing begins; a start tag that is written with its attributes in double
+/// quotes is read with this name and these attributes.
+pub fn token_laws()
+    ensures plain { PlainText }
+    ensures raw { RawText }
+    ensures comment { CommentText }
+    ensures one_step { OneStep }
+    ensures start_tag { WrittenTag }
+    ensures attributes { WrittenAttributes }
 {}

@@ -12,7 +12,7 @@ mod steps;
 mod tags;
 
 pub use attrs::Attrs;
-pub use laws::{lexical_fault, one_attribute_list, one_reading};
+pub use laws::{lexical_fault, one_attribute_list, one_reading, token_laws};
 pub use lexer::{Lexer, Token};
 pub use steps::{Step, TokenAt, step_at};
 pub use tags::{AttrStep, Attribute, attr_at, tag_end};
