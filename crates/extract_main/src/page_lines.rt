@@ -8,13 +8,16 @@ ghost use Rattle.extract_main.specs.OnePage.{IsDocumentLine, IsTextLine};
 ghost use Rattle.extract_main.specs.PageLines.{most_page, too_long, AreValues, is_refused, IsPageLine};
 
 use crate::answers::Line;
-use doc_model::{Axes, Plain, VecGrow};
+use arena_tree::ArenaGrow;
+use bumpalo::Bump;
+use doc_model::Axes;
 use html_reader::read_html;
 use io_edges::PAGE_LIMIT;
 use json_lines::{page_line, refused_line};
 use query_chain::run_field;
 use query_script::{Field, FieldValue};
 use std::alloc::Global;
+use step_index::Indexed;
 use text_base::{NoMemory, PageFault, PageReason, Seq, decode_page};
 
 /// The line of a page that is refused, or want of memory where that is the reason.
@@ -95,14 +98,19 @@ fn document_answer<S: Axes>(
     Ok(Line { text, refused })
 }
 
-/// The line of a page within the limit whose bytes decode to the text.
+/// The line of a page within the limit whose bytes decode to the text. Its document lies in an arena of its own, with
+/// tables over it.
 fn text_answer(alloc: Global, fields: &Seq<Field>, name: &str, text: &str) -> Result<Line, NoMemory>
     requires ordered { AllByRecursion IsOrdered fields.now }
     requires short { length text.now ≤ most_page }
     ensures { IfOk result (λ line. IsTextLine fields.now name.now text.now (answer_of line)) }
 {
-    match read_html(alloc, text, VecGrow::new(alloc)) {
-        Ok(tree) => document_answer(alloc, fields, name, &Plain::new(tree)),
+    let arena = Bump::new(alloc);
+    match read_html(alloc, text, ArenaGrow::new(&arena)) {
+        Ok(tree) => {
+            let source = Indexed::new(alloc, tree)?;
+            document_answer(alloc, fields, name, &source)
+        }
         Err(fault) => refused_answer(alloc, name, fault),
     }
 }
