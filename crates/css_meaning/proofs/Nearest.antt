@@ -20,9 +20,6 @@ over : (doc : Document) (y e : ℕ) → IsOver doc y e → ((eqb y e) || below d
 over doc y e (inl i) = or_left _ _ (eq-eqb y e i)
 over doc y e (inr b) = or_right _ _ b
 
-both : (a b : Bool) → a ≡ true → b ≡ true → (a && b) ≡ true
-both a b h k = ap (λ v. v && b) h ∙ k
-
 -- one number passes alone, or none
 only_one : (q : ℕ → Bool) (n y : ℕ) → y < n → ((k : ℕ) → k < n → k ≢ y → q k ≡ false) → list_any q (range_with_len 0 n) ≡ q y
 only_one q n y l others = bool_same _ _
@@ -69,10 +66,10 @@ module _ (doc : Document) (dialect : Dialect) (e : ℕ) (d : IsDocument doc) whe
   nearest_here : (y z : ℕ) → IsOver doc y e → named doc (lang_name dialect) y ≡ z ∷ []
       → ((k : ℕ) → y < k → k < length doc → here k ≡ false) → is_nearest_language doc dialect e y ≡ true
   nearest_here y z o i after =
-      both _ _ (this_here) (ap not (no_one (later y) (length doc) (λ w l. elim (cases_lt y w) [ inl j ↦ and_left _ _ (after w j l) | inr j ↦ and_right _ _ (false_from_ne_true _ (λ t. let u = ltb-true y w t in omega arith)) ])))
+      finding.parts_and _ _ (this_here) (ap not (no_one (later y) (length doc) (λ w l. elim (cases_lt y w) [ inl j ↦ and_left _ _ (after w j l) | inr j ↦ and_right _ _ (false_from_ne_true _ (λ t. let u = ltb-true y w t in omega arith)) ])))
     where
       this_here : here y ≡ true
-      this_here = both _ _ (over doc y e o) (value_found doc (lang_name dialect) y (λ value. true) ∙ ap (list_any (λ (r : ℕ). true)) i)
+      this_here = finding.parts_and _ _ (over doc y e o) (value_found doc (lang_name dialect) y (λ value. true) ∙ ap (list_any (λ (r : ℕ). true)) i)
 
   not_nearest : (y z k : ℕ) → y < length doc → IsOver doc y e → named doc (lang_name dialect) y ≡ z ∷ []
       → ((k : ℕ) → y < k → k < length doc → here k ≡ false) → k < length doc → k ≢ y → is_nearest_language doc dialect e k ≡ false
@@ -81,7 +78,7 @@ module _ (doc : Document) (dialect : Dialect) (e : ℕ) (d : IsDocument doc) whe
     | inr j ↦
         let less : k < y = omega (arith, ne) in
         let decides : here y ≡ true = (and_parts (here y) _ (nearest_here y z o i after)).0 in
-        and_right _ _ (ap not (finding.finds (later k) 0 (length doc) y (omega arith) (omega arith) (both _ _ decides (lt-ltb k y less))))
+        and_right _ _ (ap not (finding.finds (later k) 0 (length doc) y (omega arith) (omega arith) (finding.parts_and _ _ decides (lt-ltb k y less))))
   ]
 
   pub nearest : (x : List ℕ) (y z : ℕ) → y < length doc → IsOver doc y e → named doc (lang_name dialect) y ≡ z ∷ []
