@@ -202,7 +202,10 @@ fn matches_by_the_standard(rt: HostRuntime) -> Result<(), Fail> {
     let earlier = [named(First, "a"), named(Later, "b"), named(Next, "c")];
     let above = [named(First, "a"), named(Child, "b"), named(Descendant, "c")];
     let none = [named(First, "x"), named(Later, "b"), named(Later, "b")];
-    let odd = [named(First, "r"), (Child, "*", Wanted::Position(Nth::Child, 2, 1))];
+    let odd = [
+        named(First, "r"),
+        (Child, "*", Wanted::Position(Nth::Child, 2, 1)),
+    ];
     let second = [(First, "b", Wanted::NotPosition(Nth::OfType, 0, 1))];
     let other = [named(First, "b"), (Child, "*", Wanted::NotNamed("c"))];
     let classed = [(First, "*", Wanted::Class("w"))];
