@@ -137,9 +137,9 @@ module _ (doc : Document) (d : Dialect) (parts : List Part) where
       elim (or_cases (is_matched doc d parts s.at.left s.at.row) _ h) [
         | inl a ↦ inl a
         | inr b ↦ inr (elim (or_cases (is_matched_before doc d parts s.sibling) (is_matched_above doc d parts s.ancestor) b) [
-            | inl e ↦ inl (let w = found (λ z. is_earlier doc z s.sibling.row && is_matched doc d parts s.sibling.left z) 0 (length doc) e in let two = and_parts _ _ w.3 in (w.0, two.0, two.1))
-            | inr e ↦ inr (let w = found (λ z. below doc z s.ancestor.row && is_matched doc d parts s.ancestor.left z) 0 (length doc) e in let two = and_parts _ _ w.3 in (w.0, two.0, two.1))
-          ])
+          | inl e ↦ inl (let w = found (λ z. is_earlier doc z s.sibling.row && is_matched doc d parts s.sibling.left z) 0 (length doc) e in let two = and_parts _ _ w.3 in (w.0, two.0, two.1))
+          | inr e ↦ inr (let w = found (λ z. below doc z s.ancestor.row && is_matched doc d parts s.ancestor.left z) 0 (length doc) e in let two = and_parts _ _ w.3 in (w.0, two.0, two.1))
+        ])
       ]
 
   -- ---- a part holds, and its link leads on
@@ -166,14 +166,14 @@ module _ (doc : Document) (d : Dialect) (parts : List Part) where
       let within : y < length doc = (let h = w.at.row in omega arith) in
       let t = search_of (mark left y) s.sibling s.ancestor in
       let before : KeepsBefore doc d parts s.sibling (mark left y) = λ z b h.
-          let v = w.before z b h in
-          let q = split doc d parts left s.at.left p link.Next st l v.0 v.2 in
-          let e = earlier doc q.at v.0 (and_parts _ _ q.linked).0 in
-          (q.at, is_earlier_from doc q.at y (before_nearest doc q.at v.0 y s.at.row e (earlier doc v.0 s.at.row v.1) n), q.matched) in
+      let v = w.before z b h in
+      let q = split doc d parts left s.at.left p link.Next st l v.0 v.2 in
+      let e = earlier doc q.at v.0 (and_parts _ _ q.linked).0 in
+      (q.at, is_earlier_from doc q.at y (before_nearest doc q.at v.0 y s.at.row e (earlier doc v.0 s.at.row v.1) n), q.matched) in
       let here : is_matched doc d parts s.at.left s.at.row ≡ true → is_promising doc d parts t ≡ true = λ h.
-          let q = split doc d parts left s.at.left p link.Next st l s.at.row h in
-          let same : q.at ≡ y = one_nearest doc q.at y s.at.row (nearest doc q.at s.at.row w.at.row q.linked) n in
-          promise_at t (subst (λ v. is_matched doc d parts left v ≡ true) same q.matched) in
+      let q = split doc d parts left s.at.left p link.Next st l s.at.row h in
+      let same : q.at ≡ y = one_nearest doc q.at y s.at.row (nearest doc q.at s.at.row w.at.row q.linked) n in
+      promise_at t (subst (λ v. is_matched doc d parts left v ≡ true) same q.matched) in
       record {
         search = record {
           at = record { some = st.some; within = omega (arith, st.within); row = within };
@@ -208,17 +208,17 @@ module _ (doc : Document) (d : Dialect) (parts : List Part) where
       let marked : IsMark doc parts (mark left y) = record { some = st.some; within = omega (arith, st.within); row = within } in
       let above : KeepsAbove doc d parts s.ancestor (mark left y) = keeps_sideways s left p link.Later y (λ a b h. (earlier doc a b h).parent) w.above st l n.earlier.parent in
       let back : (z : ℕ) → z < length doc → is_earlier doc z s.at.row ≡ true → is_matched doc d parts left z ≡ true → is_promising doc d parts s ≡ true = λ z h e f.
-          promise_at s (join doc d parts left s.at.left p link.Later st l s.at.row held (record { at = z; within = h; linked = e; matched = f })) in
+      promise_at s (join doc d parts left s.at.left p link.Later st l s.at.row held (record { at = z; within = h; linked = e; matched = f })) in
       let here : is_matched doc d parts s.at.left s.at.row ≡ true → is_promising doc d parts t ≡ true = λ h.
-          let q = split doc d parts left s.at.left p link.Later st l s.at.row h in
-          elim (at_nearest doc q.at y s.at.row (earlier doc q.at s.at.row q.linked) n) [
-            | inl e ↦ promise_at t (subst (λ v. is_matched doc d parts left v ≡ true) e q.matched)
-            | inr e ↦ promise_before t within (q.at, is_earlier_from doc q.at y e, q.matched)
-          ] in
+      let q = split doc d parts left s.at.left p link.Later st l s.at.row h in
+      elim (at_nearest doc q.at y s.at.row (earlier doc q.at s.at.row q.linked) n) [
+        | inl e ↦ promise_at t (subst (λ v. is_matched doc d parts left v ≡ true) e q.matched)
+        | inr e ↦ promise_before t within (q.at, is_earlier_from doc q.at y e, q.matched)
+      ] in
       let there : IsFound doc d parts (is_earlier doc) s.sibling.left s.sibling.row → is_promising doc d parts t ≡ true = λ f.
-          let v = w.before f.0 f.1 f.2 in
-          let q = split doc d parts left s.at.left p link.Later st l v.0 v.2 in
-          promise_before t within (q.at, is_earlier_from doc q.at y (before_nearest doc q.at v.0 y s.at.row (earlier doc q.at v.0 q.linked) (earlier doc v.0 s.at.row v.1) n), q.matched) in
+      let v = w.before f.0 f.1 f.2 in
+      let q = split doc d parts left s.at.left p link.Later st l v.0 v.2 in
+      promise_before t within (q.at, is_earlier_from doc q.at y (before_nearest doc q.at v.0 y s.at.row (earlier doc q.at v.0 q.linked) (earlier doc v.0 s.at.row v.1) n), q.matched) in
       record {
         search = record { at = marked; sibling = marked; ancestor = w.ancestor; before = λ z b h. (z, b, h); above = above; above_sibling = λ _. above };
         same = same_tests _ _
@@ -246,13 +246,13 @@ module _ (doc : Document) (d : Dialect) (parts : List Part) where
       let within : y < length doc = (let h = w.at.row in omega arith) in
       let t = search_of (mark left y) (mark left 0) s.ancestor in
       let above : KeepsAbove doc d parts s.ancestor (mark left y) = λ z b h.
-          let v = w.above z b h in
-          let q = split doc d parts left s.at.left p link.Child st l v.0 v.2 in
-          let over : below doc q.at y ≡ true = subst (λ u. below doc u y ≡ true) (is_parent_of doc q.at v.0 q.linked).1 (subst (λ u. below doc (row doc v.0).parent u ≡ true) up v.1) in
-          (q.at, above_outer doc q.at y m (some doc q.at dd (element doc d parts left q.at q.matched)) over, q.matched) in
+      let v = w.above z b h in
+      let q = split doc d parts left s.at.left p link.Child st l v.0 v.2 in
+      let over : below doc q.at y ≡ true = subst (λ u. below doc u y ≡ true) (is_parent_of doc q.at v.0 q.linked).1 (subst (λ u. below doc (row doc v.0).parent u ≡ true) up v.1) in
+      (q.at, above_outer doc q.at y m (some doc q.at dd (element doc d parts left q.at q.matched)) over, q.matched) in
       let here : (z : ℕ) → (row doc z).parent ≡ y → is_matched doc d parts s.at.left z ≡ true → is_promising doc d parts t ≡ true = λ z e h.
-          let q = split doc d parts left s.at.left p link.Child st l z h in
-          promise_at t (subst (λ v. is_matched doc d parts left v ≡ true) (sym (is_parent_of doc q.at z q.linked).1 ∙ e) q.matched) in
+      let q = split doc d parts left s.at.left p link.Child st l z h in
+      promise_at t (subst (λ v. is_matched doc d parts left v ≡ true) (sym (is_parent_of doc q.at z q.linked).1 ∙ e) q.matched) in
       record {
         search = record {
           at = record { some = st.some; within = omega (arith, st.within); row = within };
@@ -288,17 +288,17 @@ module _ (doc : Document) (d : Dialect) (parts : List Part) where
       let t = search_of (mark left y) (mark left 0) (mark left y) in
       let marked : IsMark doc parts (mark left y) = record { some = st.some; within = omega (arith, st.within); row = within } in
       let back : (z : ℕ) → z < length doc → below doc z s.at.row ≡ true → is_matched doc d parts left z ≡ true → is_promising doc d parts s ≡ true = λ z h e f.
-          promise_at s (join doc d parts left s.at.left p link.Descendant st l s.at.row held (record { at = z; within = h; linked = e; matched = f })) in
+      promise_at s (join doc d parts left s.at.left p link.Descendant st l s.at.row held (record { at = z; within = h; linked = e; matched = f })) in
       let here : (z : ℕ) → (row doc z).parent ≡ y → is_matched doc d parts s.at.left z ≡ true → is_promising doc d parts t ≡ true = λ z e h.
-          let q = split doc d parts left s.at.left p link.Descendant st l z h in
-          elim (above_parent doc q.at z m q.linked) [
-            | inl f ↦ promise_at t (subst (λ v. is_matched doc d parts left v ≡ true) (f ∙ e) q.matched)
-            | inr f ↦ promise_above t m within (q.at, subst (λ v. below doc q.at v ≡ true) e f, q.matched)
-          ] in
+      let q = split doc d parts left s.at.left p link.Descendant st l z h in
+      elim (above_parent doc q.at z m q.linked) [
+        | inl f ↦ promise_at t (subst (λ v. is_matched doc d parts left v ≡ true) (f ∙ e) q.matched)
+        | inr f ↦ promise_above t m within (q.at, subst (λ v. below doc q.at v ≡ true) e f, q.matched)
+      ] in
       let over : IsFound doc d parts (below doc) s.ancestor.left s.ancestor.row → is_promising doc d parts t ≡ true = λ f.
-          let v = w.above f.0 f.1 f.2 in
-          let q = split doc d parts left s.at.left p link.Descendant st l v.0 v.2 in
-          promise_above t m within (q.at, subst (λ u. below doc q.at u ≡ true) up (over_outer doc v.0 q.at s.at.row m v.1 q.linked), q.matched) in
+      let v = w.above f.0 f.1 f.2 in
+      let q = split doc d parts left s.at.left p link.Descendant st l v.0 v.2 in
+      promise_above t m within (q.at, subst (λ u. below doc q.at u ≡ true) up (over_outer doc v.0 q.at s.at.row m v.1 q.linked), q.matched) in
       record {
         search = record {
           at = marked;
@@ -350,8 +350,8 @@ module _ (doc : Document) (d : Dialect) (parts : List Part) where
       let t = search_of (mark left y) (mark left y) s.ancestor in
       let marked : IsMark doc parts (mark left y) = record { some = w.sibling.some; within = w.sibling.within; row = within } in
       let above : KeepsAbove doc d parts s.ancestor (mark left y) = λ z b h.
-          let v = w.above_sibling (omega arith) z b h in
-          (v.0, outer_same doc v.0 v.0 s.sibling.row y refl n.earlier.parent v.1, v.2) in
+      let v = w.above_sibling (omega arith) z b h in
+      (v.0, outer_same doc v.0 v.0 s.sibling.row y refl n.earlier.parent v.1, v.2) in
       record {
         search = record { at = marked; sibling = marked; ancestor = w.ancestor; before = λ z b h. (z, b, h); above = above; above_sibling = λ _. above };
         same = same_tests _ _
@@ -363,9 +363,9 @@ module _ (doc : Document) (d : Dialect) (parts : List Part) where
             (λ h. elim (promises s h) [
               | inl a ↦ absurd (both_ways _ stuck a)
               | inr (inl b) ↦ elim (at_nearest doc b.0 y s.sibling.row (earlier doc b.0 s.sibling.row b.1) n) [
-                  | inl e ↦ promise_at t (subst (λ v. is_matched doc d parts left v ≡ true) e b.2)
-                  | inr e ↦ promise_before t within (b.0, is_earlier_from doc b.0 y e, b.2)
-                ]
+                | inl e ↦ promise_at t (subst (λ v. is_matched doc d parts left v ≡ true) e b.2)
+                | inr e ↦ promise_before t within (b.0, is_earlier_from doc b.0 y e, b.2)
+              ]
               | inr (inr b) ↦ promise_above t (small doc dd) w.ancestor.row b
             ]);
         less = falls_within s.ancestor.row s.sibling.row s.at.row y y (length doc) (suc (length parts)) left s.at.left (omega arith) (let h = w.sibling.within in omega arith);
@@ -399,9 +399,9 @@ module _ (doc : Document) (d : Dialect) (parts : List Part) where
               | inl a ↦ absurd (both_ways _ stuck a)
               | inr (inl b) ↦ absurd (both_ways _ (none b.0) b.1)
               | inr (inr b) ↦ elim (above_parent doc b.0 s.ancestor.row m b.1) [
-                  | inl e ↦ promise_at t (subst (λ v. is_matched doc d parts left v ≡ true) (e ∙ up) b.2)
-                  | inr e ↦ promise_above t m within (b.0, subst (λ v. below doc b.0 v ≡ true) up e, b.2)
-                ]
+                | inl e ↦ promise_at t (subst (λ v. is_matched doc d parts left v ≡ true) (e ∙ up) b.2)
+                | inr e ↦ promise_above t m within (b.0, subst (λ v. below doc b.0 v ≡ true) up e, b.2)
+              ]
             ]);
         less = falls_up s.ancestor.row s.sibling.row s.at.row y 0 y (length doc) (suc (length parts)) left s.at.left (omega arith) (omega arith) (let h = w.ancestor.within in omega arith);
       }

@@ -110,10 +110,7 @@ fn retry<T: Tree>(tree: &T, search: Search) -> Option<Search>
     match earlier_sibling(tree, search.sibling.row) {
         Some(row) => Some(backwards(search.sibling.left, row, search.ancestor)),
         None if search.ancestor.row == 0 => None,
-        None => Some(upwards(
-            search.ancestor.left,
-            tree.parent(search.ancestor.row),
-        )),
+        None => Some(upwards(search.ancestor.left, tree.parent(search.ancestor.row))),
     }
 }
 

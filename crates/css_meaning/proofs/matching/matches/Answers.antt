@@ -13,7 +13,7 @@ pub tries-init : goal.tries-init
 tries-init g c =
     let r = c.start-search.ensures in
     let both = onward.begins_at (g.T.Tree.document c.args.tree.now) c.args.dialect c.as_slice-parts.result.now (g.met.T.Tree.is_document c.args.tree.now) c.start-search.result c.args.e
-        r.at r.sibling r.ancestor (onward.some_part _ (sym c.is_empty.ensures ∙ c.if-is_empty.false)) c.requires in
+    r.at r.sibling r.ancestor (onward.some_part _ (sym c.is_empty.ensures ∙ c.if-is_empty.false)) c.requires in
     record { search = both.0; same = both.1 }
 
 pub returns-then-search-eq1 : goal.returns-then-search-eq1

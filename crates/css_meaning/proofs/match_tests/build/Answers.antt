@@ -1,0 +1,27 @@
+use Rattle.std.proofs.Common.{◌+◌, length, sym, ap, ◌∙◌, arith}
+use Rattle.doc_model.specs.Growing.{Growing}
+use Rattle.doc_model.specs.VecRows.{growing_of}
+use Rattle.doc_model.specs.declared.vec_grow.VecGrow.{VecGrow}
+use Rattle.css_meaning.proofs.TestRows.{closed}
+use Rattle.css_meaning.proofs.match_tests.build.Goals as goal
+use Rattle.css_meaning.proofs.match_tests.build.Goals.{in-Start+in_ok-start-in-Start, in-End+else-depth-eq0}
+
+of : VecGrow → Growing
+of v = growing_of v.rows.items v.unclosed.items
+
+pub loop-step-preserved : goal.loop-step-preserved
+unfolding of
+loop-step-preserved c =
+    let i = c.loop-step.invariant in
+    elim c.match-step.branch [
+      | in-Start+in_ok-start-in-Start w ↦ record {
+        rows = let e = ap (λ v. length (of v).rows) w.grow-is in omega (arith, e, w.in_ok-start-in-Start.ensures.rows, i.rows);
+        depth = ap (λ v. length (of v).open_rows) w.grow-is ∙ w.in_ok-start-in-Start.ensures.open_rows ∙ ap (λ n. n + 1) i.depth ∙ sym w.depth-is;
+        few = omega (arith, w.depth-is, i.few);
+      }
+      | in-End+else-depth-eq0 w ↦ record {
+        rows = let e = ap (λ v. length (of v).rows) w.grow-is in let f = ap (λ (s : Growing). length s.rows) w.close.ensures in omega (arith, e, f, i.rows);
+        depth = ap (λ v. length (of v).open_rows) w.grow-is ∙ ap (λ (s : Growing). length s.open_rows) w.close.ensures ∙ closed _ _ i.depth w.if-depth-eq0.false ∙ sym w.depth-is;
+        few = omega (arith, w.depth-is, i.few);
+      }
+    ]
