@@ -1,24 +1,22 @@
 -- What a comment is.
-use Rattle.std.proofs.Common.{◌≡◌, ℕ, ◌+◌, ◌-◌, ◌<◌, ◌≤◌, ◌⊎◌, inl, inr, Bool, true, false, ◌&&◌, List, [], ◌∷◌, ◌++◌, length, get_or, take, drop, sym, refl, ◌∙◌, ap, subst, arith, ltb, eq-eqb, length-take, length-drop}
+use Rattle.std.proofs.Common.{◌≡◌, ℕ, ◌+◌, ◌-◌, ◌<◌, ◌≤◌, ◌⊎◌, inl, inr, true, false, ◌&&◌, List, [], ◌∷◌, ◌++◌, length, get_or, take, drop, sym, refl, ◌∙◌, ap, subst, arith, ltb, length-take, length-drop}
 use Rattle.std.specs.Prelude.{◌==◌, slice_range, codes}
-use Rattle.std.specs.Str.{bytes_eq}
 use Rattle.std.proofs.lemmas.Bool.Decides.{nat_tests}
 use Rattle.std.proofs.lemmas.List.{take-append-drop, length-append, append_assoc}
 use Rattle.std.proofs.lemmas.Slice.Eq.{bytes_eq-Decides}
 use Rattle.std.proofs.Math.Seq.{drop-append_seam, take-append_seam}
-use Rattle.text_base.specs.Text.{run_end, is_not_byte, find_where, begins_with}
+use Rattle.text_base.specs.Text.{is_not_byte, find_where, begins_with}
 use Rattle.text_base.proofs.Boundaries.{in_text}
 use Rattle.text_base.proofs.Places.{find_in}
-use Rattle.text_base.proofs.Runs.{run_end_from, run_end_moves, run_end_passes, run_end_stops}
+use Rattle.text_base.proofs.Runs.{run_end_moves, run_end_passes, run_end_stops}
 use Rattle.html_lexer.specs.declared.steps.TokenAt.{TokenAt}
 use Rattle.html_lexer.specs.declared.steps.TokenAt.TheVariants.{Start, End, Text, Comment, Doctype}
-use Rattle.html_lexer.specs.declared.steps.Step.TheVariants.{Gives}
-use Rattle.html_lexer.specs.Steps.{has_bang_end, bracket, StepAt}
-use Rattle.html_lexer.specs.Tokens.{Tok, tok_at, comment_tok}
+use Rattle.html_lexer.specs.Steps.{bracket}
+use Rattle.html_lexer.specs.Tokens.{tok_at, comment_tok}
 use Rattle.html_lexer.specs.TokenLaws.{Holds, BeginsWith, IsMarked, IsQuery, CommentText}
 use Rattle.html_lexer.proofs.RestLemmas.{rest_byte, byte_rest, rest_past, rest_slice, slice_rest, find_first}
 use Rattle.html_lexer.proofs.SliceLemmas.{ltb_lt}
-use Rattle.html_lexer.proofs.TextLemmas.{IsBody, IsMark, At, in_raw, a_tag, outside, Other, ends, marks, types, asks, reads, comment_gives, step_gives}
+use Rattle.html_lexer.proofs.TextLemmas.{IsBody, At, in_raw, a_tag, outside, Other, ends, marks, types, asks, reads, comment_gives, step_gives}
 
 -- a list that the rest of the text begins with, and what stands in it
 module _ (text s : List ℕ) (p e : ℕ) (long : e ≡ p + length s) (r : List ℕ) (front : drop p text ≡ s ++ r) where

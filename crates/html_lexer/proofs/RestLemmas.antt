@@ -1,9 +1,9 @@
 -- What stands at a place of a text, by what the rest of the text begins with.
-use Rattle.std.proofs.Common.{◌≡◌, ℕ, zero, suc, ◌+◌, ◌-◌, ◌<◌, ◌≤◌, Bool, true, false, List, [], ◌∷◌, ◌++◌, length, get_or, take, drop, sym, refl, ◌∙◌, ap, subst, arith, get_or-drop, drop-drop, add-zero, length-drop}
-use Rattle.std.specs.Prelude.{slice_range, All}
-use Rattle.std.proofs.lemmas.List.{drop_more, take-append-drop, length-append, append_assoc}
+use Rattle.std.proofs.Common.{◌≡◌, ℕ, zero, suc, ◌+◌, ◌-◌, ◌<◌, ◌≤◌, Bool, true, false, List, ◌∷◌, ◌++◌, length, get_or, take, drop, sym, refl, ◌∙◌, ap, arith, get_or-drop, drop-drop, add-zero}
+use Rattle.std.specs.Prelude.{slice_range}
+use Rattle.std.proofs.lemmas.List.{drop_more, take-append-drop}
 use Rattle.std.proofs.Math.Seq.{drop-append_seam, take-append_seam}
-use Rattle.text_base.specs.Text.{run_end, find_where}
+use Rattle.text_base.specs.Text.{find_where}
 use Rattle.text_base.proofs.Boundaries.{in_text}
 use Rattle.text_base.proofs.Places.{find_here, find_later, find_in}
 

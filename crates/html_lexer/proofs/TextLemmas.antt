@@ -1,5 +1,5 @@
 -- What each step is at its place, and where texts end.
-use Rattle.std.proofs.Common.{◌≡◌, ℕ, ◌+◌, ◌-◌, ◌<◌, ◌≤◌, ◌⊎◌, inl, inr, Bool, true, false, cond, ◌&&◌, ◌||◌, List, length, get_or, drop, sym, refl, ◌∙◌, ap, subst, arith, ltb, leb, eqb-true, eq-eqb}
+use Rattle.std.proofs.Common.{◌≡◌, ℕ, ◌+◌, ◌<◌, ◌≤◌, ◌⊎◌, inl, inr, Bool, true, false, cond, ◌&&◌, ◌||◌, List, length, get_or, drop, sym, refl, ◌∙◌, ap, subst, arith, ltb, leb, eqb-true, eq-eqb}
 use Rattle.std.specs.Prelude.{◌==◌, slice_range, codes}
 use Rattle.std.specs.Bool.{MatchBool}
 use Rattle.std.specs.Str.{str_eq_ignore_ascii_case}
@@ -19,8 +19,7 @@ use Rattle.html_lexer.specs.declared.steps.TokenAt.TheVariants.{Start, End, Text
 use Rattle.html_lexer.specs.declared.steps.Step.{Step}
 use Rattle.html_lexer.specs.declared.steps.Step.TheVariants.{Gives, Fails}
 use Rattle.html_lexer.specs.Steps.{is_opener, opens, has_bang_end, end_tag_at, comment_at, bracket, doctype_at, query_at, declaration_at, other_at, starts_at, start_of, StartAt, MarkupAt, raw_end, StepAt}
-use Rattle.html_lexer.specs.Tokens.{Tok, tok_at, text_tok}
-use Rattle.html_lexer.specs.Lexing.{Begins}
+use Rattle.html_lexer.specs.Tokens.{tok_at, text_tok}
 use Rattle.html_lexer.specs.TokenLaws.{MarkupBegins, EndTagBegins, GoesUpTo, PlainText, RawText}
 use Rattle.html_lexer.proofs.PlainLemmas.{opens_at, other_moves, both}
 use Rattle.html_lexer.proofs.RawLemmas.{closes_at}

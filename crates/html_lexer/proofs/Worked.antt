@@ -4,7 +4,7 @@ use Rattle.text_base.specs.declared.reasons.PageReason.TheVariants.{BadTag, BadC
 use Rattle.html_lexer.specs.Names.{literal_names, escapable_names}
 use Rattle.html_lexer.specs.declared.tags.AttrStep.TheVariants.{Closes}
 use Rattle.html_lexer.specs.declared.steps.TokenAt.TheVariants.{Start, End, Text, Comment, Doctype}
-use Rattle.html_lexer.specs.Tokens.{Tok, start_tok, end_tok, text_tok, comment_tok, doctype_tok}
+use Rattle.html_lexer.specs.Tokens.{start_tok, end_tok, text_tok, comment_tok, doctype_tok}
 use Rattle.html_lexer.specs.Lexing.{Begins, Lexes, LexFault}
 use Rattle.html_lexer.proofs.SliceLemmas.{ltb_lt}
 
@@ -20,11 +20,23 @@ doctype = (Doctype 15, (inside 0 refl, refl), refl)
 
 start : Begins page [] 15 (start_tok 15 32 (codes "p") (codes " id=\"a\" b=c d") true)
 unfolding literal_names escapable_names
-start =
-    (Start 17 30 32 true, (inside 15 refl, (Closes 30 32 true, (
-      record { name = 18; name_to = 20; value = 22; value_to = 23; to = 24 } ∷
-      record { name = 25; name_to = 26; value = 27; value_to = 28; to = 28 } ∷
-      record { name = 29; name_to = 30; value = 30; value_to = 30; to = 30 } ∷ [], (refl, (refl, (refl, refl)))), refl)), refl)
+start = (
+  Start 17 30 32 true,
+  (
+    inside 15 refl,
+    (
+      Closes 30 32 true,
+      (
+        record { name = 18; name_to = 20; value = 22; value_to = 23; to = 24 } ∷
+            record { name = 25; name_to = 26; value = 27; value_to = 28; to = 28 } ∷
+            record { name = 29; name_to = 30; value = 30; value_to = 30; to = 30 } ∷ [],
+        (refl, (refl, (refl, refl))),
+      ),
+      refl,
+    ),
+  ),
+  refl,
+)
 
 text : Begins page (codes "p") 32 (text_tok 32 38 (codes "x&amp;") true)
 unfolding literal_names escapable_names

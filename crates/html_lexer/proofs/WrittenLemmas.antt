@@ -1,16 +1,16 @@
 -- A start tag that is written with its attributes in double quotes reads as it is written.
-use Rattle.std.proofs.Common.{◌≡◌, ℕ, suc, ◌+◌, ◌-◌, ◌<◌, ◌≤◌, Bool, true, false, cond, ◌&&◌, ◌||◌, List, [], ◌∷◌, ◌++◌, map, length, get_or, drop, sym, refl, ◌∙◌, ap, subst, arith, ltb, leb, eq-eqb, length-drop, get_or-drop, add-zero}
+use Rattle.std.proofs.Common.{◌≡◌, ℕ, suc, ◌+◌, ◌-◌, ◌<◌, Bool, true, false, cond, ◌&&◌, ◌||◌, List, [], ◌∷◌, ◌++◌, map, length, get_or, drop, sym, refl, ◌∙◌, ap, subst, arith, ltb, leb, eq-eqb, length-drop, get_or-drop, add-zero}
 use Rattle.std.specs.Prelude.{◌==◌, slice_range, codes, All}
 use Rattle.std.specs.List.{AllPass, prefix_len}
 use Rattle.std.specs.Bool.{MatchBool}
-use Rattle.std.proofs.lemmas.Bool.{or_right, or_left, or_from}
+use Rattle.std.proofs.lemmas.Bool.{or_from}
 use Rattle.std.proofs.lemmas.Bool.Decides.{nat_tests}
 use Rattle.std.proofs.lemmas.List.{length-append, append_assoc}
 use Rattle.std.proofs.lemmas.List.Sums.{prefix_len_is}
 use Rattle.std.proofs.Math.ListN.{get_or-append}
 use Rattle.std.proofs.Math.Seq.{drop-append_seam, get_or-append_seam}
 use Rattle.text_base.specs.Text.{run_end, find_where, is_not_byte, is_letter, is_space5}
-use Rattle.text_base.specs.declared.reasons.PageReason.TheVariants.{BadTag, BadAttribute}
+use Rattle.text_base.specs.declared.reasons.PageReason.TheVariants.{BadTag}
 use Rattle.html_lexer.specs.Kinds.{is_name_byte, is_gap, is_attr_byte}
 use Rattle.html_lexer.specs.Names.{is_raw, is_escapable, is_plaintext, closes}
 use Rattle.html_lexer.specs.declared.tags.Attribute.{Attribute}
@@ -19,7 +19,6 @@ use Rattle.html_lexer.specs.declared.tags.AttrStep.TheVariants.{Reads, Closes, R
 use Rattle.html_lexer.specs.Tags.{quoted, valued, named, attr_at, TagReads, TagComesTo}
 use Rattle.html_lexer.specs.Attributes.{Writes, pair_at}
 use Rattle.html_lexer.specs.declared.steps.TokenAt.TheVariants.{Start, Text}
-use Rattle.html_lexer.specs.declared.steps.Step.{Step}
 use Rattle.html_lexer.specs.declared.steps.Step.TheVariants.{Gives, Fails}
 use Rattle.html_lexer.specs.Steps.{StartAt, MarkupAt, StepAt, raw_end, start_of}
 use Rattle.html_lexer.specs.Tokens.{start_tok}
