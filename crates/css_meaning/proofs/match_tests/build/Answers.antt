@@ -1,13 +1,13 @@
 use Rattle.std.proofs.Common.{◌+◌, length, sym, ap, ◌∙◌, arith}
 use Rattle.doc_model.specs.Growing.{Growing}
-use Rattle.doc_model.specs.VecRows.{growing_of}
+use Rattle.doc_model.specs.KeptRows.{growing_of}
 use Rattle.doc_model.specs.declared.vec_grow.VecGrow.{VecGrow}
 use Rattle.css_meaning.proofs.TestRows.{closed}
 use Rattle.css_meaning.proofs.match_tests.build.Goals as goal
 use Rattle.css_meaning.proofs.match_tests.build.Goals.{in-Start+in_ok-start-in-Start, in-End+else-depth-eq0}
 
 of : VecGrow → Growing
-of v = growing_of v.rows.items v.unclosed.items
+of v = growing_of v.kept.rows.items v.kept.unclosed.items
 
 pub loop-step-preserved : goal.loop-step-preserved
 unfolding of

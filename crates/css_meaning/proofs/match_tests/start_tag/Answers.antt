@@ -1,7 +1,7 @@
 use Rattle.std.proofs.Common.{ap, sym, ◌∙◌}
 use Rattle.std.specs.Str.{chars}
 use Rattle.doc_model.specs.Growing.{with_attr}
-use Rattle.doc_model.specs.VecRows.{growing_of}
+use Rattle.doc_model.specs.KeptRows.{growing_of}
 use Rattle.css_meaning.proofs.TestRows.{filled, awaits_behind_attr, on_ok}
 use Rattle.css_meaning.proofs.match_tests.start_tag.Goals as goal
 
@@ -16,6 +16,6 @@ returns-clause-awaits c =
     let was = c.args.grow.now in
     let now = c.attr.new.self in
     on_ok c.attr.result
-    (λ e. awaits_behind_attr (growing_of now.rows.items now.unclosed.items) (growing_of was.rows.items was.unclosed.items) (chars c.args.name.now) (chars c.args.attr.now) (chars c.args.value.now) now.grown
+    (λ e. awaits_behind_attr (growing_of now.kept.rows.items now.kept.unclosed.items) (growing_of was.kept.rows.items was.kept.unclosed.items) (chars c.args.name.now) (chars c.args.attr.now) (chars c.args.value.now) now.grown
     (e ∙ ap (λ s. with_attr s (chars c.args.attr.now) (chars c.args.value.now)) c.in_ok-element.ensures.ok))
     c.attr.ensures.ok
