@@ -1,0 +1,132 @@
+-- Words and lower case on the bytes of texts.
+use Rattle.std.proofs.Common.{◌≡◌, ℕ, suc, ◌<◌, ◌≤◌, Bool, true, false, cond, List, [], ◌∷◌, ◌++◌, length, map, get_or, refl, sym, ◌∙◌, ap, arith, encode_utf8_all, inl, inr}
+use Rattle.std.specs.Char.{to_ascii_lowercase}
+use Rattle.std.specs.List.{slice_split, onto_first}
+use Rattle.std.specs.Prelude.{encode_utf8, ◌||◌, codes, filter}
+use Rattle.std.specs.Str.{chars, IsUtf8, bytes_eq}
+use Rattle.std.proofs.lemmas.List.{append-nil}
+use Rattle.std.proofs.lemmas.Bool.{cases_lt}
+use Rattle.std.proofs.lemmas.Bool.Decides.{nat_tests}
+use Rattle.std.proofs.lemmas.Str.{encode_ascii, encodes-chars, inside_one, length-encode, len_utf8_bounds, encodes-append}
+use Rattle.std.proofs.lemmas.Str.Ascii.{lowercase_ascii}
+use Rattle.text_base.specs.Strings.{starts_with, is_empty, is_among, put, pieces, not_empty, runs}
+use Rattle.text_base.specs.Text.{is_space5, IsNarrow}
+use Rattle.text_base.specs.Words.{is_some, words_by}
+use Rattle.text_base.proofs.WordLemmas.{words_bytes}
+use Rattle.css_meaning.specs.Attributes.{word_test, dash_test, lang_test}
+use Rattle.css_meaning.proofs.ByteParts.{bool_same, same_bytes, starts_bytes, some_empty}
+use Rattle.css_meaning.proofs.Values.{word_is_run, run_means}
+
+-- ---- nothing
+
+empty_bytes : (w : List ℕ) → is_empty (encode_utf8_all w) ≡ is_empty w
+empty_bytes [] = refl
+empty_bytes (c ∷ w) = some_empty (encode_utf8 c) (encode_utf8_all w) (omega (arith, length-encode c, (len_utf8_bounds c).0))
+
+pub empty_chars : (x : List ℕ) → IsUtf8 x → is_empty x ≡ is_empty (chars x)
+empty_chars x utf8 = ap is_empty (sym (encodes-chars x utf8)) ∙ empty_bytes (chars x)
+
+-- ---- words
+
+put_first : (c : ℕ) (ws : List (List ℕ)) → onto_first c ws ≡ put c ws
+put_first c [] = refl
+put_first c (w ∷ ws) = refl
+
+split_pieces : (p : ℕ → Bool) (x : List ℕ) → slice_split p x ≡ pieces p x
+split_pieces p [] = refl
+split_pieces p (c ∷ x) =
+    ap (λ ws. cond (p c) ([] ∷ ws) (onto_first c ws)) (split_pieces p x) ∙ ap (cond (p c) ([] ∷ pieces p x)) (put_first c (pieces p x))
+
+some_kept : (ws : List (List ℕ)) → filter is_some ws ≡ not_empty ws
+some_kept [] = refl
+some_kept ([] ∷ ws) = some_kept ws
+some_kept ((c ∷ w) ∷ ws) = ap (λ vs. (c ∷ w) ∷ vs) (some_kept ws)
+
+pub words_runs : (p : ℕ → Bool) (x : List ℕ) → words_by p x ≡ runs p x
+words_runs p x = ap (filter is_some) (split_pieces p x) ∙ some_kept (pieces p x)
+
+among_bytes : (v : List ℕ) (ws : List (List ℕ)) → is_among (encode_utf8_all v) (map encode_utf8_all ws) ≡ is_among v ws
+among_bytes v [] = refl
+among_bytes v (w ∷ ws) = ap (λ b. b || is_among (encode_utf8_all v) (map encode_utf8_all ws)) (same_bytes w v) ∙ ap (λ b. bytes_eq w v || b) (among_bytes v ws)
+
+space5_ascii : IsNarrow is_space5
+space5_ascii b past = grind (arith, nat_tests)
+
+-- the words have characters, and no white space
+word_among : (x v : List ℕ) → word_test x v ≡ is_among v (runs is_space5 x)
+word_among x v = bool_same _ _ (λ h. (run_means is_space5 x v).1 ((word_is_run x v).0 h)) (λ h. (word_is_run x v).1 ((run_means is_space5 x v).0 h))
+
+pub word_chars : (x v : List ℕ) → IsUtf8 x → IsUtf8 v → is_among v (words_by is_space5 x) ≡ word_test (chars x) (chars v)
+word_chars x v utf8 other =
+    ap (λ t. is_among t (words_by is_space5 x)) (sym (encodes-chars v other))
+    ∙ ap (λ t. is_among (encode_utf8_all (chars v)) (words_by is_space5 t)) (sym (encodes-chars x utf8))
+    ∙ ap (is_among (encode_utf8_all (chars v))) (words_bytes is_space5 space5_ascii (chars x))
+    ∙ among_bytes (chars v) (words_by is_space5 (chars x))
+    ∙ ap (is_among (chars v)) (words_runs is_space5 (chars x))
+    ∙ sym (word_among (chars x) (chars v))
+
+-- ---- dashes
+
+either : (a b c d : Bool) → a ≡ b → c ≡ d → (a || c) ≡ (b || d)
+either a b c d h k = cc
+
+encode_dash : encode_utf8_all (codes "-") ≡ codes "-"
+encode_dash = ap (λ t. t ++ []) (encode_ascii 45 (omega arith))
+
+dash_bytes : (x v : List ℕ) → dash_test (encode_utf8_all x) (encode_utf8_all v) ≡ dash_test x v
+dash_bytes x v =
+    either _ _ _ _ (same_bytes x v)
+    (ap (starts_with (encode_utf8_all x)) (ap (λ t. encode_utf8_all v ++ t) (sym encode_dash) ∙ sym (encodes-append v (codes "-"))) ∙ starts_bytes x (v ++ codes "-"))
+
+pub dash_chars : (x v : List ℕ) → IsUtf8 x → IsUtf8 v → dash_test x v ≡ dash_test (chars x) (chars v)
+dash_chars x v utf8 other =
+    ap (λ t. dash_test t v) (sym (encodes-chars x utf8)) ∙ ap (dash_test (encode_utf8_all (chars x))) (sym (encodes-chars v other)) ∙ dash_bytes (chars x) (chars v)
+
+-- ---- lower case
+
+abbrev pub lower : List ℕ → List ℕ
+lower x = map to_ascii_lowercase x
+
+lower_past : (c : ℕ) → 128 ≤ c → to_ascii_lowercase c ≡ c
+lower_past c h = grind (arith, nat_tests)
+
+lower_append : (x y : List ℕ) → lower (x ++ y) ≡ lower x ++ lower y
+lower_append [] y = refl
+lower_append (c ∷ x) y = ap (λ t. to_ascii_lowercase c ∷ t) (lower_append x y)
+
+high_same : (s : List ℕ) → ((k : ℕ) → k < length s → 128 ≤ get_or s k 0) → lower s ≡ s
+high_same [] f = refl
+high_same (c ∷ s) f = ap (λ d. d ∷ lower s) (lower_past c (f 0 (omega arith))) ∙ ap (λ t. c ∷ t) (high_same s (λ k l. f (suc k) (omega arith)))
+
+-- each byte of a character is the character or past ASCII
+byte_of : (c k : ℕ) → k < length (encode_utf8 c) → get_or (encode_utf8 c) k 0 < 128 → c ≡ get_or (encode_utf8 c) k 0
+byte_of c k l h = inside_one c [] (encode_utf8 c) k (sym (append-nil (encode_utf8 c))) l h
+
+high_byte : (c k : ℕ) → 128 ≤ c → k < length (encode_utf8 c) → 128 ≤ get_or (encode_utf8 c) k 0
+high_byte c k high l = elim (cases_lt (get_or (encode_utf8 c) k 0) 128) [
+  | inl lt ↦ let e : c ≡ get_or (encode_utf8 c) k 0 = byte_of c k l lt in absurd (omega arith)
+  | inr ge ↦ ge
+]
+
+lower_one : (c : ℕ) → lower (encode_utf8 c) ≡ encode_utf8 (to_ascii_lowercase c)
+lower_one c = elim (cases_lt c 128) [
+  | inl lt ↦ ap lower (encode_ascii c lt) ∙ sym (encode_ascii (to_ascii_lowercase c) (lowercase_ascii c lt))
+  | inr ge ↦ high_same (encode_utf8 c) (λ k l. high_byte c k ge l) ∙ ap encode_utf8 (sym (lower_past c ge))
+]
+
+lower_bytes : (x : List ℕ) → lower (encode_utf8_all x) ≡ encode_utf8_all (lower x)
+lower_bytes [] = refl
+lower_bytes (c ∷ x) = lower_append (encode_utf8 c) (encode_utf8_all x) ∙ ap (λ t. t ++ lower (encode_utf8_all x)) (lower_one c) ∙ ap (λ t. encode_utf8 (to_ascii_lowercase c) ++ t) (lower_bytes x)
+
+lower_chars : (x : List ℕ) → IsUtf8 x → lower x ≡ encode_utf8_all (lower (chars x))
+lower_chars x utf8 = ap lower (sym (encodes-chars x utf8)) ∙ lower_bytes (chars x)
+
+pub lang_chars : (x v : List ℕ) → IsUtf8 x → IsUtf8 v → lang_test x v ≡ lang_test (chars x) (chars v)
+lang_chars x v utf8 other =
+    ap (λ t. dash_test t (lower v)) (lower_chars x utf8) ∙ ap (dash_test (encode_utf8_all (lower (chars x)))) (lower_chars v other)
+    ∙ dash_bytes (lower (chars x)) (lower (chars v))
+
+pub lowered_chars : (x v : List ℕ) → IsUtf8 x → IsUtf8 v → bytes_eq x (lower v) ≡ bytes_eq (chars x) (lower (chars v))
+lowered_chars x v utf8 other =
+    ap (λ t. bytes_eq t (lower v)) (sym (encodes-chars x utf8)) ∙ ap (bytes_eq (encode_utf8_all (chars x))) (lower_chars v other)
+    ∙ same_bytes (chars x) (lower (chars v))
