@@ -1,16 +1,14 @@
 -- The texts below a row, read piece by piece.
-use Rattle.std.proofs.Common.{◌≡◌, refl, ℕ, zero, suc, ◌+◌, ◌-◌, ◌<◌, ◌≤◌, Bool, true, false, ◌&&◌, ◌||◌, cond, eqb, ltb, List, [], ◌∷◌, ◌++◌, length, take, drop, sym, ◌∙◌, ap, arith, inl, inr, ◌⊎◌, encode_utf8_all, get_or, zero-add}
+use Rattle.std.proofs.Common.{◌≡◌, refl, ℕ, zero, suc, ◌+◌, ◌-◌, ◌<◌, ◌≤◌, Bool, true, false, ◌&&◌, ◌||◌, cond, eqb, List, [], ◌∷◌, ◌++◌, length, take, drop, sym, ◌∙◌, ap, arith, inl, inr, ◌⊎◌, encode_utf8_all, get_or}
 use Prim.Native.Nat.{min}
 use Rattle.std.specs.Prelude.{filter, flat_map}
 use Rattle.std.specs.List.{range_with_len}
 use Rattle.std.specs.Str.{chars, IsUtf8}
 use Rattle.std.specs.Cmp.Lexicographic.{pointwise}
-use Rattle.std.proofs.lemmas.Bool.{or_left, or_right, or_parts, or_cases, and_right, and_from, and_parts, both_ways, lt-ltb, le-ltb, ne_eqb}
-use Rattle.std.proofs.lemmas.Bool.Decides.{nat_tests}
+use Rattle.std.proofs.lemmas.Bool.{or_left, or_right, or_parts, or_cases, and_right, and_from, and_parts, both_ways, ne_eqb}
 use Rattle.std.proofs.lemmas.List.{drop_more, drop_all}
 use Rattle.std.proofs.lemmas.Str.{encodes-append, encodes-chars, chars-nil}
 use Rattle.text_base.specs.Strings.{starts_with, contains}
-use Rattle.text_base.specs.Text.{first_place, find_where, begins_with}
 use Rattle.doc_model.specs.declared.Kind.{Kind}
 use Rattle.doc_model.specs.declared.Kind.TheVariants.{Attribute, Text, Comment}
 use Rattle.doc_model.specs.Document.{Document, row, is_text, below, IsDocument}

@@ -1,4 +1,4 @@
-use Rattle.std.proofs.Common.{◌≡◌, ◌++◌, ℕ, List, sym, ◌∙◌, ap, arith, length, lt-ltb, drop, Bool}
+use Rattle.std.proofs.Common.{◌≡◌, ◌++◌, ℕ, List, sym, ◌∙◌, ap, arith, drop, Bool}
 use Rattle.text_base.specs.Strings.{starts_with}
 use Rattle.css_meaning.specs.TextPlaces.{bytes_from}
 use Rattle.css_meaning.proofs.ByteParts.{occurs_chars}
