@@ -1,39 +1,13 @@
 -- A text contains another where the bytes of the one contain those of the other: no byte inside a character begins one.
-use Rattle.std.proofs.Common.{◌≡◌, refl, ℕ, ◌+◌, ◌<◌, ◌/◌, ◌%◌, ◌≤◌, Bool, true, false, ◌&&◌, ◌||◌, leb, ltb, List, [], ◌∷◌, ◌++◌, sym, ◌∙◌, ap, arith, inl, inr, append_assoc, encode_utf8_all}
+use Rattle.std.proofs.Common.{◌≡◌, refl, ℕ, ◌+◌, ◌<◌, ◌/◌, ◌%◌, ◌≤◌, Bool, true, false, ◌&&◌, ◌||◌, leb, ltb, List, [], ◌∷◌, ◌++◌, sym, ◌∙◌, ap, arith, inl, inr, encode_utf8_all}
 use Rattle.std.specs.Prelude.{encode_utf8}
 use Rattle.std.proofs.lemmas.Bool.{and_left, and_right, and_from, cond-true, cond-false, and_parts, or_from, cases_lt, le-leb, lt-ltb, lt-leb, le-ltb, ne_eqb, both_ways}
-use Rattle.std.proofs.lemmas.Str.{encodes-append, cons_from_encodes}
 use Rattle.text_base.specs.Strings.{starts_with, contains}
-use Rattle.css_meaning.specs.Parts.{Begins}
 use Rattle.css_meaning.specs.TextPlaces.{begins_in}
 use Rattle.css_meaning.proofs.ListTests.{or_false}
-use Rattle.css_meaning.proofs.Values.{begins_means}
+use Rattle.css_meaning.proofs.ByteParts.{starts_bytes}
+use Rattle.css_meaning.proofs.TextTests.{no_part}
 use lib.Utf8.{encode}
-
-bool_same : (a b : Bool) → (a ≡ true → b ≡ true) → (b ≡ true → a ≡ true) → a ≡ b
-bool_same true b f g = sym (f refl)
-bool_same false true f g = g refl
-bool_same false false f g = refl
-
--- ---- beginnings
-
-cut_front : (v x after : List ℕ) → encode_utf8_all x ≡ encode_utf8_all v ++ after → (rest : List ℕ) × (x ≡ v ++ rest)
-cut_front [] x after e = (x, refl)
-cut_front (b ∷ v) x after e =
-    let cut = cons_from_encodes x (encode_utf8_all v ++ after) b (e ∙ append_assoc (encode_utf8 b) (encode_utf8_all v) after) in
-    let more = cut_front v cut.0 after cut.2 in
-    (more.0, cut.1 ∙ ap (λ t. b ∷ t) more.1)
-
-starts_from : (x v : List ℕ) → Begins (encode_utf8_all x) (encode_utf8_all v) → Begins x v
-starts_from x v b = let cut = cut_front v x b.after b.is in record { after = cut.0; is = cut.1 }
-
-starts_to : (x v : List ℕ) → Begins x v → Begins (encode_utf8_all x) (encode_utf8_all v)
-starts_to x v b = record { after = encode_utf8_all b.after; is = ap encode_utf8_all b.is ∙ encodes-append v b.after }
-
-starts_bytes : (x v : List ℕ) → starts_with (encode_utf8_all x) (encode_utf8_all v) ≡ starts_with x v
-starts_bytes x v = bool_same _ _
-    (λ h. (begins_means x v).1 (starts_from x v ((begins_means (encode_utf8_all x) (encode_utf8_all v)).0 h)))
-    (λ h. (begins_means (encode_utf8_all x) (encode_utf8_all v)).1 (starts_to x v ((begins_means x v).0 h)))
 
 -- ---- the bytes of one character
 
@@ -106,10 +80,6 @@ contains_parts (b ∷ a) r v = ap (λ t. starts_with ((b ∷ a) ++ r) v || t) (c
     or_assoc true y z = refl
     or_assoc false y z = refl
 
-pub contains_nothing : (x : List ℕ) → contains x [] ≡ true
-contains_nothing [] = refl
-contains_nothing (a ∷ x) = refl
-
 -- no text begins inside a character
 inner_apart : (bs rest : List ℕ) (first : ℕ) (v : List ℕ) → all_inner bs ≡ true → is_inner first ≡ false → begins_in bs rest (first ∷ v) ≡ false
 inner_apart [] rest first v h k = refl
@@ -125,7 +95,7 @@ begins_first bytes rest w first inner start tail e f h k =
     ∙ ap (λ t. starts_with (t ++ rest) (start ∷ tail)) (sym e) ∙ ap (starts_with (bytes ++ rest)) (sym f)
 
 pub contains_bytes : (x v : List ℕ) → contains (encode_utf8_all x) (encode_utf8_all v) ≡ contains x v
-contains_bytes x [] = contains_nothing (encode_utf8_all x) ∙ sym (contains_nothing x)
+contains_bytes x [] = no_part (encode_utf8_all x) ∙ sym (no_part x)
 contains_bytes [] (d ∷ v) = starts_bytes [] (d ∷ v)
 contains_bytes (c ∷ x) (d ∷ v) =
     let w : List ℕ = encode_utf8_all (d ∷ v) in

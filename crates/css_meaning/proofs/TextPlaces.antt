@@ -1,16 +1,14 @@
 -- The texts below a row, read piece by piece.
-use Rattle.std.proofs.Common.{◌≡◌, refl, ℕ, zero, suc, ◌+◌, ◌-◌, ◌<◌, ◌≤◌, Bool, true, false, ◌&&◌, ◌||◌, cond, eqb, ltb, List, [], ◌∷◌, ◌++◌, length, take, drop, sym, ◌∙◌, ap, arith, inl, inr, ◌⊎◌, encode_utf8_all, get_or, zero-add}
+use Rattle.std.proofs.Common.{◌≡◌, refl, ℕ, zero, suc, ◌+◌, ◌-◌, ◌<◌, ◌≤◌, Bool, true, false, ◌&&◌, ◌||◌, cond, eqb, List, [], ◌∷◌, ◌++◌, length, take, drop, sym, ◌∙◌, ap, arith, inl, inr, ◌⊎◌, encode_utf8_all, get_or}
 use Prim.Native.Nat.{min}
 use Rattle.std.specs.Prelude.{filter, flat_map}
 use Rattle.std.specs.List.{range_with_len}
 use Rattle.std.specs.Str.{chars, IsUtf8}
 use Rattle.std.specs.Cmp.Lexicographic.{pointwise}
-use Rattle.std.proofs.lemmas.Bool.{or_left, or_right, or_parts, or_cases, and_right, and_from, and_parts, both_ways, lt-ltb, le-ltb, ne_eqb}
-use Rattle.std.proofs.lemmas.Bool.Decides.{nat_tests}
+use Rattle.std.proofs.lemmas.Bool.{or_left, or_right, or_parts, or_cases, and_right, and_from, and_parts, both_ways, ne_eqb}
 use Rattle.std.proofs.lemmas.List.{drop_more, drop_all}
 use Rattle.std.proofs.lemmas.Str.{encodes-append, encodes-chars, chars-nil}
 use Rattle.text_base.specs.Strings.{starts_with, contains}
-use Rattle.text_base.specs.Text.{first_place, find_where, begins_with}
 use Rattle.doc_model.specs.declared.Kind.{Kind}
 use Rattle.doc_model.specs.declared.Kind.TheVariants.{Attribute, Text, Comment}
 use Rattle.doc_model.specs.Document.{Document, row, is_text, below, IsDocument}
@@ -21,7 +19,8 @@ use Rattle.doc_model.proofs.Filters.{upto, upto_none}
 use Rattle.doc_model.proofs.Texts.{is_below, texts_all}
 use Rattle.css_meaning.specs.TextPlaces.{text_at, texts_from, bytes_from, begins_in}
 use Rattle.css_meaning.proofs.ListTests.{and_assoc}
-use Rattle.css_meaning.proofs.TextBytes.{contains_parts, contains_nothing, contains_bytes}
+use Rattle.css_meaning.proofs.TextTests.{no_part}
+use Rattle.css_meaning.proofs.TextBytes.{contains_parts, contains_bytes}
 
 -- ---- a piece and what is wanted
 
@@ -42,30 +41,11 @@ starts_ends [] (b ∷ left) h = ne_eqb _ _ (λ e. omega arith)
 starts_ends (a ∷ x) (b ∷ left) (inl h) = cc
 starts_ends (a ∷ x) (b ∷ left) (inr h) = absurd (omega arith)
 
--- ---- a search in one piece
-
-begins_is : (v s : List ℕ) → begins_with v s ≡ starts_with s v
-begins_is [] s = refl
-begins_is (b ∷ v) [] = refl
-begins_is (b ∷ v) (a ∷ s) = ap (λ t. eqb a b && t) (begins_is v s)
-
-place_at : (t : Bool) (f n : ℕ) → ltb (cond t 0 (1 + f)) (suc n) ≡ (t || ltb f n)
-place_at true f n = lt-ltb 0 (suc n) (omega arith)
-place_at false f n = grind (arith, nat_tests)
+-- ---- what begins in a piece
 
 no_start : (v : List ℕ) → 0 < length v → false ≡ starts_with [] v
 no_start [] h = absurd (omega arith)
 no_start (b ∷ v) h = refl
-
-place_is : (v a : List ℕ) → 0 < length v → ltb (first_place (begins_with v) a) (length a) ≡ contains a v
-place_is v [] some = le-ltb 0 0 (omega arith) ∙ no_start v some
-place_is v (c ∷ a) some =
-    place_at (begins_with v (c ∷ a)) (first_place (begins_with v) a) (length a)
-    ∙ ap (λ t. t || ltb (first_place (begins_with v) a) (length a)) (begins_is v (c ∷ a))
-    ∙ ap (λ t. starts_with (c ∷ a) v || t) (place_is v a some)
-
-pub found_is : (v a : List ℕ) (k : ℕ) → 0 < length v → k ≡ find_where (begins_with v) a 0 → ltb k (length a) ≡ contains a v
-found_is v a k some e = ap (λ n. ltb n (length a)) (e ∙ zero-add _) ∙ place_is v a some
 
 starts_more : (a rest v : List ℕ) → starts_with a v ≡ true → starts_with (a ++ rest) v ≡ true
 starts_more a rest [] h = refl
@@ -178,12 +158,8 @@ own_text doc e k (inr (inl h)) = ap (λ v. string_value_of v doc e) h
 own_text doc e k (inr (inr h)) = ap (λ v. string_value_of v doc e) h
 
 pub nothing_wanted : (x w : List ℕ) → length w ≡ 0 → contains x (chars w) ≡ true
-nothing_wanted x [] h = ap (contains x) chars-nil ∙ contains_nothing x
+nothing_wanted x [] h = ap (contains x) chars-nil ∙ no_part x
 nothing_wanted x (b ∷ w) h = absurd (omega arith)
-
-pub some_wanted : (w : List ℕ) → (length w ≡ 0 → ⊥) → 0 < length w
-some_wanted [] h = absurd (h refl)
-some_wanted (b ∷ w) h = omega arith
 
 pub nothing_left : (doc : Document) (y to : ℕ) (w : List ℕ) → to ≤ y → 0 < length w → contains (bytes_from doc y to) w ≡ false
 nothing_left doc y to w l some = ap (λ t. contains t w) (bytes_none doc y to l) ∙ sym (no_start w some)

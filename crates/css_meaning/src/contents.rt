@@ -7,8 +7,9 @@ ghost use Rattle.doc_model.specs.StringValue.{string_value, texts_below};
 ghost use Rattle.css_meaning.specs.Simples as spec;
 ghost use Rattle.css_meaning.specs.TextPlaces.{text_at, bytes_from, begins_in};
 
+use crate::texts::includes;
 use doc_model::{Kind, Tree};
-use text_base::{bytes_from, find_text};
+use text_base::bytes_from;
 
 fn is_text<T: Tree>(tree: &T, y: u32) -> bool
     requires { y < length (T.document tree.now) }
@@ -122,7 +123,7 @@ fn begins_within<T: Tree>(tree: &T, text: &str, from: u32, to: u32, wanted: &str
     requires some { 0 < length wanted.now }
     ensures { result ≡ begins_in text.now (bytes_from (T.document tree.now) from to) wanted.now }
 {
-    if find_text(text, wanted.as_bytes(), 0) < text.len() {
+    if includes(text, wanted) {
         return true;
     }
     // Where it does not stand in the text as a whole, it can begin in as many last bytes only as it
@@ -165,9 +166,6 @@ pub fn contains_text<T: Tree>(tree: &T, e: u32, wanted: &str) -> bool
     }
     match tree.kind(e) {
         Kind::Root | Kind::Element => contains_below(tree, e, wanted),
-        Kind::Attribute | Kind::Text | Kind::Comment => {
-            let text = tree.text(e);
-            find_text(text, wanted.as_bytes(), 0) < text.len()
-        }
+        Kind::Attribute | Kind::Text | Kind::Comment => includes(tree.text(e), wanted),
     }
 }
