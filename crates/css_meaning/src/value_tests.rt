@@ -1,4 +1,6 @@
-use crate::{Dialect, Op, is_language, is_named, value_passes};
+use crate::attribute_values::{is_language, value_passes};
+use crate::names::is_named;
+use crate::{Dialect, Op};
 
 #[test]
 fn compares_values(rt: HostRuntime) {
