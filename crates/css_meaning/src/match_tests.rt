@@ -94,6 +94,9 @@ enum Wanted {
     Contains(&'static str),
 }
 
+/// A part: its combinator, its name or `*`, and a simple selector.
+type Asked = (Link, &'static str, Wanted);
+
 /// The simple selector itself.
 fn simple_of(alloc: Global, wanted: Wanted) -> Result<Option<Simple>, NoMemory> {
     let (negated, test) = match wanted {
@@ -126,12 +129,12 @@ fn part_of(alloc: Global, link: Link, name: &str, wanted: Wanted) -> Result<Part
     })
 }
 
-/// The rows of the page that the selector matches, or `Memory`.
+/// The rows of the page that the selector matches.
 fn matched(
     alloc: Global,
     steps: &[Step],
     dialect: Dialect,
-    parts: &[(Link, &'static str, Wanted)],
+    parts: &[Asked],
 ) -> Result<Vec<u32>, NoMemory> {
     if steps.len() >= 2000 {
         return Err(NoMemory);
@@ -139,7 +142,7 @@ fn matched(
     let tree = build(alloc, steps)?;
     let mut list = Vec::new(alloc);
     for (link, name, wanted) in parts {
-        list.push(part_of(alloc, *link, name, *wanted)?)?;
+        list.push(part_of(alloc, *link, *name, *wanted)?)?;
     }
     let selector = Selector {
         parts: Seq::from_vec(list),
@@ -187,45 +190,81 @@ const NESTED: [Step; 12] = [
     Step::End,
 ];
 
-/// A compound selector that is a name alone.
-fn named(link: Link, name: &'static str) -> (Link, &'static str, Wanted) {
-    (link, name, Wanted::Any)
-}
+/// `a + b ~ c`, which fails at the nearest `b`
+const RETRIED: [Asked; 3] = [
+    (Link::First, "a", Wanted::Any),
+    (Link::Next, "b", Wanted::Any),
+    (Link::Later, "c", Wanted::Any),
+];
+
+/// `a ~ b + c`
+const EARLIER: [Asked; 3] = [
+    (Link::First, "a", Wanted::Any),
+    (Link::Later, "b", Wanted::Any),
+    (Link::Next, "c", Wanted::Any),
+];
+
+/// `x ~ b ~ b`, where only one `b` follows the `x`
+const TWICE: [Asked; 3] = [
+    (Link::First, "x", Wanted::Any),
+    (Link::Later, "b", Wanted::Any),
+    (Link::Later, "b", Wanted::Any),
+];
+
+/// `a > b c`, which fails at the nearest `b` above
+const ABOVE: [Asked; 3] = [
+    (Link::First, "a", Wanted::Any),
+    (Link::Child, "b", Wanted::Any),
+    (Link::Descendant, "c", Wanted::Any),
+];
+
+/// `r > :nth-child(2n+1)`
+const ODD: [Asked; 2] = [
+    (Link::First, "r", Wanted::Any),
+    (Link::Child, "*", Wanted::Position(Nth::Child, 2, 1)),
+];
+
+/// `b:not(:first-of-type)`
+const NOT_FIRST: [Asked; 1] = [(Link::First, "b", Wanted::NotPosition(Nth::OfType, 0, 1))];
+
+/// `b > :not(c)`
+const OTHER: [Asked; 2] = [
+    (Link::First, "b", Wanted::Any),
+    (Link::Child, "*", Wanted::NotNamed("c")),
+];
+
+/// `.w`
+const CLASSED: [Asked; 1] = [(Link::First, "*", Wanted::Class("w"))];
+
+/// `c:contains("bc")`, where the text lies over two rows
+const ACROSS: [Asked; 1] = [(Link::First, "c", Wanted::Contains("bc"))];
+
+/// `i:contains("bc")`
+const WITHIN: [Asked; 1] = [(Link::First, "i", Wanted::Contains("bc"))];
+
+/// `B ~ C:empty`
+const UPPER: [Asked; 2] = [
+    (Link::First, "B", Wanted::Any),
+    (Link::Later, "C", Wanted::Empty),
+];
 
 #[test]
 fn matches_by_the_standard(rt: HostRuntime) -> Result<(), Fail> {
-    use Link::{Child, Descendant, First, Later, Next};
     let alloc = rt.alloc();
-    let (siblings, nested) = (&SIBLINGS[..], &NESTED[..]);
-    // `a + b ~ c` fails at the nearest `b`, and `a > b c` at the nearest one above
-    let retried = [named(First, "a"), named(Next, "b"), named(Later, "c")];
-    let earlier = [named(First, "a"), named(Later, "b"), named(Next, "c")];
-    let above = [named(First, "a"), named(Child, "b"), named(Descendant, "c")];
-    let none = [named(First, "x"), named(Later, "b"), named(Later, "b")];
-    let odd = [
-        named(First, "r"),
-        (Child, "*", Wanted::Position(Nth::Child, 2, 1)),
-    ];
-    let second = [(First, "b", Wanted::NotPosition(Nth::OfType, 0, 1))];
-    let other = [named(First, "b"), (Child, "*", Wanted::NotNamed("c"))];
-    let classed = [(First, "*", Wanted::Class("w"))];
-    let across = [(First, "c", Wanted::Contains("bc"))];
-    let within = [(First, "i", Wanted::Contains("bc"))];
-    let upper = [named(First, "B"), (Later, "C", Wanted::Empty)];
     for (steps, dialect, parts, want) in [
-        (siblings, Dialect::Generic, &retried[..], "[6]"),
-        (siblings, Dialect::Generic, &earlier[..], "[6]"),
-        (siblings, Dialect::Generic, &none[..], "[]"),
-        (siblings, Dialect::Generic, &odd[..], "[2, 4, 6]"),
-        (siblings, Dialect::Generic, &second[..], "[5]"),
-        (siblings, Dialect::Generic, &classed[..], "[6]"),
-        (nested, Dialect::Generic, &above[..], "[4]"),
-        (nested, Dialect::Generic, &other[..], "[3]"),
-        (nested, Dialect::Generic, &across[..], "[4]"),
-        (nested, Dialect::Generic, &within[..], "[]"),
-        (nested, Dialect::Html, &upper[..], "[8]"),
-        (nested, Dialect::Generic, &upper[..], "[]"),
-        (nested, Dialect::Generic, &[][..], "[]"),
+        (&SIBLINGS[..], Dialect::Generic, &RETRIED[..], "[6]"),
+        (&SIBLINGS[..], Dialect::Generic, &EARLIER[..], "[6]"),
+        (&SIBLINGS[..], Dialect::Generic, &TWICE[..], "[]"),
+        (&SIBLINGS[..], Dialect::Generic, &ODD[..], "[2, 4, 6]"),
+        (&SIBLINGS[..], Dialect::Generic, &NOT_FIRST[..], "[5]"),
+        (&SIBLINGS[..], Dialect::Generic, &CLASSED[..], "[6]"),
+        (&NESTED[..], Dialect::Generic, &ABOVE[..], "[4]"),
+        (&NESTED[..], Dialect::Generic, &OTHER[..], "[3]"),
+        (&NESTED[..], Dialect::Generic, &ACROSS[..], "[4]"),
+        (&NESTED[..], Dialect::Generic, &WITHIN[..], "[]"),
+        (&NESTED[..], Dialect::Html, &UPPER[..], "[8]"),
+        (&NESTED[..], Dialect::Generic, &UPPER[..], "[]"),
+        (&NESTED[..], Dialect::Generic, &UPPER[..0], "[]"),
     ] {
         let rows = matched(alloc, steps, dialect, parts)?;
         let got = format!(in alloc; "{rows:?}")?;
