@@ -16,6 +16,6 @@ returns-clause-awaits c =
     let was = c.args.grow.now in
     let now = c.attr.new.self in
     on_ok c.attr.result
-    (λ e. awaits_behind_attr (growing_of now.kept.rows.items now.kept.unclosed.items) (growing_of was.kept.rows.items was.kept.unclosed.items) (chars c.args.name.now) (chars c.args.attr.now) (chars c.args.value.now) now.grown
+    (λ e. awaits_behind_attr (growing_of now.kept.rows.items now.kept.unclosed.items) (growing_of was.kept.rows.items was.kept.unclosed.items) (chars c.args.name.now) (chars c.args.attr.now) (chars c.args.value.now) now.kept.grown
     (e ∙ ap (λ s. with_attr s (chars c.args.attr.now) (chars c.args.value.now)) c.in_ok-element.ensures.ok))
     c.attr.ensures.ok
