@@ -1,8 +1,8 @@
 -- How many elements stand beside an element on the axes of siblings.
-use Rattle.std.proofs.Common.{◌≡◌, ℕ, zero, suc, ◌+◌, ◌-◌, ◌<◌, ◌≤◌, length, Bool, true, false, ◌&&◌, eqb, nat_lt, List, [], ◌∷◌, ◌++◌, refl, sym, ◌∙◌, ap, arith, inl, inr, ◌⊎◌, lt-ltb}
-use Rattle.std.specs.Prelude.{filter, reverse, not}
+use Rattle.std.proofs.Common.{◌≡◌, ℕ, ◌+◌, ◌-◌, ◌<◌, length, Bool, true, false, ◌&&◌, eqb, nat_lt, List, ◌++◌, refl, sym, ◌∙◌, ap, arith, inl, inr, lt-ltb}
+use Rattle.std.specs.Prelude.{filter, not}
 use Rattle.std.specs.List.{range_with_len}
-use Rattle.std.proofs.lemmas.Bool.{and_parts, and_left, and_right, cases_eq, eq-eqb, ne_eqb, both_ways, le-ltb}
+use Rattle.std.proofs.lemmas.Bool.{and_left, and_right, cases_eq, eq-eqb, ne_eqb, both_ways, le-ltb}
 use Rattle.std.proofs.lemmas.List.{length-append, length-reverse, append-nil}
 use Rattle.doc_model.specs.declared.Axis.TheVariants as axis
 use Rattle.doc_model.specs.declared.Axis.{Axis}
@@ -15,7 +15,6 @@ use Rattle.doc_model.specs.Axes.{axis_list, are_siblings, passes}
 use Rattle.doc_model.proofs.Filters.{none_in, upto, upto_none}
 use Rattle.step_index.proofs.Counted.{one_child, some_element}
 use Rattle.step_index.proofs.Places.{same_within}
-use Rattle.step_index.specs.Named.{is_named}
 use Rattle.step_index.specs.Siblings.{children_before}
 
 eqb_comm : (a b : ℕ) → eqb a b ≡ eqb b a
