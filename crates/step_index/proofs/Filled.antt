@@ -1,12 +1,11 @@
 -- Tables that are filled row by row.
-use Rattle.std.proofs.Common.{◌≡◌, refl, sym, ◌∙◌, ap, ℕ, ◌+◌, ◌≤◌, ◌<◌, Bool, true, false, ◌&&◌, cond, List, ◌∷◌, [], ◌++◌, IsUtf8, arith, Option, Some, None, Result, Ok, Err}
-use Rattle.std.specs.Prelude.{filter, codes, OnOk, OnErr}
+use Rattle.std.proofs.Common.{◌≡◌, refl, sym, ◌∙◌, ap, ℕ, ◌+◌, Bool, true, false, ◌&&◌, cond, List, ◌∷◌, [], ◌++◌, IsUtf8, arith, Option, Some, None, Result, Ok, Err}
+use Rattle.std.specs.Prelude.{codes, OnOk, OnErr}
 use Rattle.std.specs.Option.{option_map, option_or}
 use Rattle.std.specs.List.{range_with_len, find}
 use Rattle.std.specs.Str.{chars, bytes_eq}
 use Rattle.std.proofs.lemmas.Bool.{and_parts}
 use Rattle.std.proofs.lemmas.List.Folds.{find-append}
-use Rattle.doc_model.specs.declared.Kind.{Kind}
 use Rattle.doc_model.specs.declared.Kind.TheVariants.{Element, Attribute}
 use Rattle.doc_model.specs.Document.{Document, row, is_attribute, is_attribute_kind, is_element_kind}
 use Rattle.doc_model.proofs.Filters.{upto_more}

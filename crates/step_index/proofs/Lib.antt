@@ -4,4 +4,5 @@ mod Filled
 mod Firsts
 pub mod Places
 mod Siblings
+mod Tallied
 mod Texts

@@ -1,23 +1,22 @@
 -- How far the elements of a name go.
-use Rattle.std.proofs.Common.{◌≡◌, ℕ, zero, suc, ◌+◌, ◌-◌, ◌*◌, ◌^◌, ◌<◌, ◌≤◌, length, take, drop, Bool, true, false, ◌&&◌, ◌||◌, cond, eqb, nat_lt, List, [], ◌∷◌, ◌++◌, refl, sym, ◌∙◌, ap, subst, arith, inl, inr, ◌⊎◌, Option, Some, None, append_assoc, lt-ltb, mul-add, add-mul}
+use Rattle.std.proofs.Common.{◌≡◌, ℕ, zero, suc, ◌+◌, ◌-◌, ◌*◌, ◌^◌, ◌<◌, ◌≤◌, length, take, drop, Bool, true, false, ◌&&◌, ◌||◌, cond, eqb, List, [], ◌∷◌, ◌++◌, refl, sym, ◌∙◌, ap, arith, inl, inr, Some, None, append_assoc, mul-add, add-mul}
 use Rattle.std.specs.Prelude.{filter, slice_get, not}
 use Rattle.std.specs.List.{range_with_len}
-use Rattle.std.proofs.lemmas.Bool.{and_left, and_right, or_from, or_left, cases_lt, le-ltb, ltb-true, ltb-false, eq-eqb, ne_eqb, cond_both}
+use Rattle.std.proofs.lemmas.Bool.{and_left, and_right, or_from, or_left, cases_lt, eq-eqb, ne_eqb, cond_both}
 use Rattle.std.proofs.lemmas.List.{length-append, append-nil, take_all, take-append-drop}
 use Rattle.std.proofs.lemmas.Nat.{mul-le, pow_below, pow-add}
 use Rattle.doc_model.specs.declared.Kind.{Kind}
 use Rattle.doc_model.specs.declared.Kind.TheVariants.{Root, Element, Attribute, Text, Comment}
 use Rattle.doc_model.specs.declared.Axis.TheVariants as axis
 use Rattle.doc_model.specs.declared.NodeTest.TheVariants as test
-use Rattle.doc_model.specs.Document.{Document, row, rows, is_element, is_element_kind, is_attribute, is_attribute_kind, below, IsDocument}
+use Rattle.doc_model.specs.Document.{Document, row, is_element_kind, is_attribute, is_attribute_kind, below, IsDocument}
 use Rattle.doc_model.specs.Axes.{axis_list}
 use Rattle.doc_model.specs.Ends.{IsEnd}
-use Rattle.doc_model.specs.RowLists.{IsFront}
 use Rattle.doc_model.specs.Walks.{chosen}
 use Rattle.doc_model.proofs.Below.{small, not_up, past_end}
 use Rattle.doc_model.proofs.Runs.{same_filter}
 use Rattle.doc_model.proofs.Filters.{none_in, from_to, upto, upto_none, single}
-use Rattle.step_index.specs.Named.{is_named, named, named_before, named_below, GrowsByFront}
+use Rattle.step_index.specs.Named.{is_named, named_before, named_below, GrowsByFront}
 
 -- ---- lists by place
 

@@ -1,8 +1,10 @@
 -- How many elements stand beside an element on the axes of siblings.
-use Rattle.std.proofs.Common.{◌≡◌, ℕ, zero, suc, ◌+◌, ◌-◌, ◌<◌, ◌≤◌, length, Bool, true, false, ◌&&◌, eqb, nat_lt, List, [], ◌∷◌, ◌++◌, refl, sym, ◌∙◌, ap, arith, inl, inr, ◌⊎◌, lt-ltb}
-use Rattle.std.specs.Prelude.{filter, reverse, not}
+use Rattle.std.proofs.Common.{◌≡◌, ℕ, ◌+◌, ◌-◌, ◌<◌, length, Bool, true, false, ◌&&◌, eqb, nat_lt, List, ◌++◌, refl, sym, ◌∙◌, ap, arith, inl, inr, lt-ltb}
+use Rattle.std.specs.Prelude.{filter, not}
 use Rattle.std.specs.List.{range_with_len}
 use Rattle.std.proofs.lemmas.Bool.{and_parts, and_left, and_right, cases_eq, eq-eqb, ne_eqb, both_ways, le-ltb}
+use Rattle.std.specs.Str.{bytes_eq}
+use Rattle.std.proofs.lemmas.Slice.Eq.{bytes_eq-Decides}
 use Rattle.std.proofs.lemmas.List.{length-append, length-reverse, append-nil}
 use Rattle.doc_model.specs.declared.Axis.TheVariants as axis
 use Rattle.doc_model.specs.declared.Axis.{Axis}
@@ -96,3 +98,27 @@ pub any_following : (doc : Document) (x : ℕ) (a : Axis) (t : NodeTest) (r : �
 any_following doc x a t r d l h s e f =
     let here : length (axis_list doc x a t) ≡ length (axis_list doc x a test.AnyName) = ap (λ v. length (axis_list doc x a v)) e in
     omega (arith, f, here, following doc x a test.AnyName d l h s (λ z k. k) h)
+
+-- ---- with the element's own name
+
+own_name : (doc : Document) (x : ℕ) (n : List ℕ) → is_named doc n x ≡ true → (is_element doc x ≡ true) × ((row doc x).name ≡ n)
+own_name doc x n h = let two = and_parts (is_element doc x) (bytes_eq (row doc x).name n) h in (two.0, (bytes_eq-Decides (row doc x).name n).0 two.1)
+
+pub named_preceding : (doc : Document) (x : ℕ) (a : Axis) (t : NodeTest) (n : List ℕ) → IsDocument doc → x < length doc → is_named doc n x ≡ true → a ≡ axis.PrecedingSibling → t ≡ test.Name n
+    → length (axis_list doc x a t) ≡ children_before doc (is_named doc (row doc x).name) (row doc x).parent x
+named_preceding doc x a t n d l h s e =
+    let own = own_name doc x n h in
+    ap (λ v. length (axis_list doc x a v)) e ∙ preceding doc x a (test.Name n) d l own.0 s (λ z k. (and_parts (is_element doc z) (bytes_eq (row doc z).name n) k).0)
+    ∙ ap (λ v. children_before doc (is_named doc v) (row doc x).parent x) (sym own.1)
+
+pub named_following : (doc : Document) (x : ℕ) (a : Axis) (t : NodeTest) (n : List ℕ) (r : ℕ) → IsDocument doc → x < length doc → is_named doc n x ≡ true → a ≡ axis.FollowingSibling → t ≡ test.Name n
+    → children_before doc (is_named doc (row doc x).name) (row doc x).parent (length doc) ≡ children_before doc (is_named doc (row doc x).name) (row doc x).parent x + 1 + r
+    → r ≡ length (axis_list doc x a t)
+named_following doc x a t n r d l h s e f =
+    let own = own_name doc x n h in
+    let here : length (axis_list doc x a t) ≡ length (axis_list doc x a (test.Name n)) = ap (λ v. length (axis_list doc x a v)) e in
+    let all : children_before doc (is_named doc (row doc x).name) (row doc x).parent (length doc) ≡ children_before doc (is_named doc n) (row doc x).parent (length doc) = ap (λ v. children_before doc (is_named doc v) (row doc x).parent (length doc)) own.1 in
+    let before : children_before doc (is_named doc (row doc x).name) (row doc x).parent x ≡ children_before doc (is_named doc n) (row doc x).parent x = ap (λ v. children_before doc (is_named doc v) (row doc x).parent x) own.1 in
+    let walked : children_before doc (is_named doc n) (row doc x).parent (length doc) ≡ children_before doc (is_named doc n) (row doc x).parent x + 1 + length (axis_list doc x a (test.Name n)) =
+    following doc x a (test.Name n) d l own.0 s (λ z k. (and_parts (is_element doc z) (bytes_eq (row doc z).name n) k).0) h in
+    omega (arith, f, here, all, before, walked)

@@ -1,3 +1,4 @@
+pub mod Alike
 pub mod Named
 pub mod Siblings
 pub mod Tables

@@ -1,5 +1,5 @@
 -- Elements among their siblings, as far as the rows were counted.
-use Rattle.std.specs.Prelude.{◌≡◌, ℕ, ◌+◌, ◌<◌, Bool, true, ◌&&◌, List, length, filter, slice_index}
+use Rattle.std.specs.Prelude.{◌≡◌, ℕ, ◌<◌, Bool, true, ◌&&◌, List, length, filter, slice_index}
 use Rattle.std.specs.List.{range_with_len}
 use Rattle.doc_model.specs.Document.{Document, row, is_element, is_parent}
 

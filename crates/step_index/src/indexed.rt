@@ -7,9 +7,11 @@ ghost use Rattle.doc_model.specs.Axes.{axis_list};
 ghost use Rattle.doc_model.specs.RowLists.{IsFront};
 ghost use Rattle.step_index.specs.Named.{has_id, is_named, named, named_before, GrowsByFront};
 ghost use Rattle.step_index.specs.Named as spec;
+ghost use Rattle.step_index.specs.Alike.{tally, HasAlike};
 ghost use Rattle.step_index.specs.Siblings.{HasChildren, children_before};
 ghost use Rattle.step_index.specs.Tables.{HasNames, HasIds};
 
+use crate::alike::Alike;
 use crate::children::Children;
 use crate::ids::Ids;
 use crate::names::Names;
@@ -27,9 +29,11 @@ pub struct Indexed<T: Tree> {
     names: Names,
     ids: Ids,
     children: Children,
+    alike: Alike,
     ghost named: { HasNames (T.document tree) names (length (T.document tree)) },
     ghost identified: { HasIds (T.document tree) ids (length (T.document tree)) },
     ghost counted: { HasChildren (T.document tree) children.ranks.items children.counts.items (length (T.document tree)) },
+    ghost grouped: { HasAlike (T.document tree) alike.ranks.items (tally alike.tallies) (length (T.document tree)) },
 }
 
 impl<T: Tree + Drop> Indexed<T> {
@@ -40,11 +44,13 @@ impl<T: Tree + Drop> Indexed<T> {
         let names = Names::of(alloc, &tree)?;
         let ids = Ids::of(alloc, &tree)?;
         let children = Children::of(alloc, &tree)?;
+        let alike = Alike::of(alloc, &tree, &names)?;
         Ok(Indexed {
             tree,
             names,
             ids,
             children,
+            alike,
         })
     }
 }
@@ -212,6 +218,37 @@ impl<T: Tree> Indexed<T> {
         let before = self.children.before(x);
         all - before - 1
     }
+
+    /// How many elements of its name stand behind an element among its siblings.
+    fn alike_behind(&self, x: u32) -> u32
+        requires row { x < length (T.document self.now.tree) }
+        requires element { is_element (T.document self.now.tree) x ≡ true }
+        ensures { let doc = T.document self.now.tree in
+            children_before doc (is_named doc (row doc x).name) (row doc x).parent (length doc)
+            ≡ children_before doc (is_named doc (row doc x).name) (row doc x).parent x + 1 + result }
+    {
+        let parent = self.tree.parent(x);
+        let first = self.names.first(self.tree.name(x));
+        let all = self.alike.all(parent, first);
+        let before = self.alike.before(x);
+        all - before - 1
+    }
+
+    /// How many rows are on the axis of `x` that have the name.
+    fn count_named(&self, x: u32, axis: Axis, test: &NodeTest, name: &str) -> u32
+        requires row { x < length (T.document self.now.tree) }
+        requires named { test.now ≡ NodeTest.Name (chars name.now) }
+        ensures { result ≡ length (axis_list (T.document self.now.tree) x axis test.now) }
+    {
+        if is_named(&self.tree, x, name) {
+            match axis {
+                Axis::PrecedingSibling => return self.alike.before(x),
+                Axis::FollowingSibling => return self.alike_behind(x),
+                _ => {}
+            }
+        }
+        walk_count(&self.tree, x, axis, test)
+    }
 }
 
 /// Whether the row is an element.
@@ -271,6 +308,9 @@ impl<T: Tree> Axes for Indexed<T> {
                     _ => {}
                 }
             }
+        }
+        if let NodeTest::Name(name) = test {
+            return self.count_named(x, axis, test, name.as_str());
         }
         walk_count(&self.tree, x, axis, test)
     }

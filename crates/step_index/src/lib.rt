@@ -1,6 +1,7 @@
 //! Tables over a tree: elements by name and by attribute `id`.
 #![tactic(auto)]
 
+mod alike;
 mod children;
 mod ids;
 mod indexed;

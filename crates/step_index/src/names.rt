@@ -1,5 +1,6 @@
 //! Rows by element name.
-ghost use Rattle.std.specs.Prelude.{◌≡◌, ◌<◌, ◌++◌, ◌∷◌, ℕ, List, [], if◌then◌else◌, length, IfOk, OnOk};
+ghost use Rattle.std.specs.Prelude.{◌≡◌, ◌<◌, ◌++◌, ◌∷◌, ℕ, List, [], if◌then◌else◌, length, slice_get, IfOk, OnOk};
+ghost use Rattle.std.specs.Option.{unwrap_or};
 ghost use Rattle.std.specs.Str.{bytes_eq, chars, IsUtf8};
 ghost use Rattle.step_index.specs.Named.{is_named, named};
 ghost use Rattle.step_index.specs.Tables.{rows_under, HasNames};
@@ -57,5 +58,12 @@ impl Names {
             Some(list) => list.as_slice(),
             None => &[],
         }
+    }
+
+    /// The first row under a name, or 0.
+    pub(crate) fn first(&self, name: &str) -> u32
+        ensures { result ≡ unwrap_or (slice_get (rows_under self.now name.now) 0) 0 }
+    {
+        self.under(name).first().copied().unwrap_or(0)
     }
 }

@@ -11,8 +11,13 @@ push-requires-clause-within g c =
 
 pub push-requires-clause-small : goal.push-requires-clause-small
 push-requires-clause-small g c =
-    omega (arith, counted.room (g.T.Tree.document c.args.tree.now) c.args.self.now.ranks.items c.args.self.now.counts.items c.args.y c.parent.result (g.met.T.Tree.is_document c.args.tree.now)
-    (ap is_element_kind (sym c.kind.ensures ∙ c.in-Element.is)) c.parent.ensures c.requires.before, c.requires.row, g.met.T.Tree.is_small c.args.tree.now)
+    omega (
+      arith,
+      counted.room (g.T.Tree.document c.args.tree.now) c.args.self.now.ranks.items c.args.self.now.counts.items c.args.y c.parent.result (g.met.T.Tree.is_document c.args.tree.now)
+          (ap is_element_kind (sym c.kind.ensures ∙ c.in-Element.is)) c.parent.ensures c.requires.before,
+      c.requires.row,
+      g.met.T.Tree.is_small c.args.tree.now,
+    )
 
 pub returns-in-Element : goal.returns-in-Element
 returns-in-Element g c =

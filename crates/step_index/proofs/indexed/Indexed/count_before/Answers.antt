@@ -1,4 +1,4 @@
-use Rattle.std.proofs.Common.{◌≡◌, ◌<◌, ◌≤◌, ◌+◌, ◌-◌, ◌*◌, ◌/◌, ◌^◌, ℕ, length, arith, sym}
+use Rattle.std.proofs.Common.{◌+◌, ◌-◌, ◌/◌, ◌^◌, length, arith, sym}
 use Rattle.std.specs.Str.{chars}
 use Rattle.step_index.specs.Named.{is_named, named_before}
 use Rattle.step_index.proofs.Places as places

@@ -1,4 +1,4 @@
-use Rattle.std.proofs.Common.{◌≡◌, ◌<◌, ◌≤◌, ◌+◌, ◌-◌, ◌*◌, ◌^◌, ℕ, length}
+use Rattle.std.proofs.Common.{◌≤◌, ◌+◌, ◌-◌, ◌*◌, ◌^◌, length}
 use Rattle.std.specs.Str.{chars}
 use Rattle.step_index.specs.Named.{named_before}
 use Rattle.step_index.proofs.indexed.Indexed.count_before.Given as goal

@@ -1,4 +1,4 @@
-use Rattle.std.proofs.Common.{◌≡◌, ◌<◌, ◌≤◌, ◌+◌, ◌-◌, ◌^◌, ℕ, length, arith, sym, Some, None}
+use Rattle.std.proofs.Common.{◌+◌, ◌-◌, length, arith, sym}
 use Rattle.std.specs.Str.{chars}
 use Rattle.doc_model.proofs.Runs.{on_err}
 use Rattle.step_index.specs.Named.{is_named, named_before, named_below}

@@ -1,4 +1,4 @@
-use Rattle.std.proofs.Common.{◌≡◌, ◌<◌, ◌≤◌, ◌+◌, ◌-◌, ◌*◌, ◌^◌, ◌++◌, ℕ, length, take}
+use Rattle.std.proofs.Common.{◌≡◌, ◌≤◌, ◌+◌, ◌-◌, ◌*◌, ◌^◌, ◌++◌, length, take}
 use Rattle.std.specs.Str.{chars}
 use Rattle.step_index.specs.Named.{named_before, named_below}
 use Rattle.step_index.proofs.indexed.Indexed.named_below.Given as goal

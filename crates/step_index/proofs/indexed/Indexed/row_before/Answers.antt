@@ -1,6 +1,5 @@
 use Rattle.std.proofs.Common.{sym}
 use Rattle.std.specs.Str.{chars}
-use Rattle.doc_model.specs.Document.{Document}
 use Rattle.step_index.specs.Named.{is_named}
 use Rattle.std.proofs.Common.{length}
 use Rattle.step_index.proofs.Places as places

@@ -1,4 +1,4 @@
-use Rattle.std.proofs.Common.{◌≡◌, ◌++◌, [], ◌∷◌, cond, sym, ◌∙◌, ap}
+use Rattle.std.proofs.Common.{◌++◌, [], ◌∷◌, cond, sym, ◌∙◌, ap}
 use Rattle.doc_model.proofs.Runs.{on_err}
 use Rattle.doc_model.proofs.WalkSteps.{empty_front}
 use Rattle.step_index.specs.Named.{is_named, named_below}
