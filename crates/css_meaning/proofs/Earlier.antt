@@ -1,8 +1,8 @@
 -- Walking back to the nearest element sibling before a row.
-use Rattle.std.proofs.Common.{◌≡◌, ℕ, ◌+◌, ◌-◌, ◌<◌, ◌≤◌, true, false, ◌&&◌, eqb, ltb, length, refl, sym, ◌∙◌, ap, subst, arith, inl, inr, ◌⊎◌, lt-ltb}
+use Rattle.std.proofs.Common.{◌≡◌, ℕ, ◌-◌, ◌<◌, ◌≤◌, true, false, ◌&&◌, eqb, ltb, length, refl, subst, arith, inl, inr, ◌⊎◌, lt-ltb}
 use Rattle.std.specs.Prelude.{not}
-use Rattle.std.specs.List.{list_any, range_with_len}
-use Rattle.std.proofs.lemmas.Bool.{and_parts, and_from, and_left, and_right, cases_lt, cases_eq, eqb-true, eq-eqb, ltb-true, false_from_ne_true, both_ways, not-true, not_from_false}
+use Rattle.std.specs.List.{list_any}
+use Rattle.std.proofs.lemmas.Bool.{and_parts, and_from, cases_lt, cases_eq, eqb-true, eq-eqb, ltb-true, false_from_ne_true, both_ways, not-true, not_from_false}
 use Rattle.doc_model.specs.Document.{Document, row, rows, is_element, is_parent, below, IsDocument}
 use Rattle.doc_model.proofs.Below.{Small, small, below_cases, below_less, below_parent}
 use Rattle.doc_model.proofs.Ending.{between}

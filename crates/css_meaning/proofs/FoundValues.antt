@@ -1,5 +1,5 @@
 -- The value of an attribute that a search by its name gives.
-use Rattle.std.proofs.Common.{◌≡◌, ℕ, Bool, true, false, ◌&&◌, List, [], ◌∷◌, Option, Some, None, refl, sym, ◌∙◌, ap}
+use Rattle.std.proofs.Common.{◌≡◌, ℕ, Bool, true, false, ◌&&◌, List, [], ◌∷◌, Option, Some, None, sym, ◌∙◌, ap}
 use Rattle.std.specs.Option.{option_to_list, is_some}
 use Rattle.std.specs.Prelude.{filter}
 use Rattle.std.specs.List.{list_any}

@@ -1,14 +1,13 @@
 -- The nearest attribute that names a language.
-use Rattle.std.proofs.Common.{◌≡◌, ◌≢◌, refl, sym, ◌∙◌, ap, subst, ℕ, ◌+◌, ◌<◌, ◌≤◌, Bool, true, false, ◌&&◌, ◌||◌, not, List, [], ◌∷◌, length, eqb, ltb, arith, ◌⊎◌, inl, inr, Option, Some, None, lt-ltb}
+use Rattle.std.proofs.Common.{◌≡◌, ◌≢◌, sym, ◌∙◌, ap, subst, ℕ, ◌<◌, ◌≤◌, Bool, true, false, ◌&&◌, ◌||◌, not, List, [], ◌∷◌, length, eqb, ltb, arith, ◌⊎◌, inl, inr, Option, Some, None, lt-ltb}
 use Rattle.std.specs.Option.{option_to_list}
-use Rattle.std.specs.Prelude.{filter}
 use Rattle.std.specs.List.{list_any, range_with_len}
 use Rattle.std.proofs.lemmas.Bool.{and_left, and_right, or_left, or_right, or_from, eq-eqb, ne_eqb, cases_lt, and_parts, false_from_ne_true, ltb-true}
-use Rattle.doc_model.specs.Document.{Document, row, rows, below, IsDocument}
+use Rattle.doc_model.specs.Document.{Document, row, below, IsDocument}
 use Rattle.doc_model.proofs.Below.{small, not_up}
 use Rattle.doc_model.proofs.WalkSteps.{IsOver, none_above, over_within}
 use Rattle.css_meaning.specs.declared.selector.Dialect.{Dialect}
-use Rattle.css_meaning.specs.Attributes.{is_attribute_of, has_value, has_attribute, lang_test}
+use Rattle.css_meaning.specs.Attributes.{has_value, lang_test}
 use Rattle.css_meaning.specs.Language.{lang_name, gives_language, is_nearest_language, lang_holds}
 use Rattle.css_meaning.specs.Nearest.{says}
 use Rattle.css_meaning.proofs.ByteParts.{bool_same}

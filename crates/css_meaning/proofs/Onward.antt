@@ -1,11 +1,11 @@
 -- A search goes on to what is as promising: the nearest row that a link names stands for what earlier choices left open.
-use Rattle.std.proofs.Common.{◌≡◌, ℕ, zero, suc, ◌+◌, ◌-◌, ◌*◌, ◌<◌, ◌≤◌, Bool, true, false, ◌&&◌, ◌||◌, eqb, List, [], ◌∷◌, length, get_or, refl, sym, ◌∙◌, ap, subst, arith, inl, inr, ◌⊎◌}
+use Rattle.std.proofs.Common.{◌≡◌, ℕ, zero, suc, ◌+◌, ◌-◌, ◌*◌, ◌<◌, ◌≤◌, true, false, ◌&&◌, eqb, List, [], ◌∷◌, length, get_or, refl, sym, ◌∙◌, ap, subst, arith, inl, inr, ◌⊎◌}
 use Rattle.std.specs.Prelude.{max}
 use Rattle.std.specs.Cmp.{both_ways as same_tests}
 use Rattle.std.proofs.Math.Nat.{mul-le-mul_right}
 use Rattle.std.proofs.lemmas.Bool.{and_parts, and_from, or_cases, or_left, or_right, cases_lt, eqb-true, eqb-false, eq-eqb, ltb-true, false_from_ne_true, both_ways}
 use Rattle.std.proofs.Common.{lt-ltb}
-use Rattle.doc_model.specs.Document.{Document, row, is_element, is_parent, below, IsDocument}
+use Rattle.doc_model.specs.Document.{Document, row, is_parent, below, IsDocument}
 use Rattle.doc_model.proofs.Below.{Small, small, below_root, below_cases, below_less, below_parent, below_up, below_trans}
 use Rattle.css_meaning.specs.declared.selector.Dialect.{Dialect}
 use Rattle.css_meaning.specs.declared.selector.Link.{Link}
@@ -13,12 +13,12 @@ use Rattle.css_meaning.specs.declared.selector.Link.TheVariants as link
 use Rattle.css_meaning.specs.declared.selector.Part.{Part}
 use Rattle.css_meaning.specs.declared.matching.Mark.{Mark}
 use Rattle.css_meaning.specs.declared.matching.Search.{Search}
-use Rattle.css_meaning.proofs.Earlier.{Earlier, earlier, is_earlier_from, none_of_root, Nearest, nearest, is_nearest_from}
+use Rattle.css_meaning.proofs.Earlier.{Earlier, earlier, is_earlier_from, none_of_root, Nearest, nearest}
 use Rattle.css_meaning.proofs.Finding.{found, finds}
-use Rattle.css_meaning.proofs.Leftward.{IsStep, IsLed, whole, first, split, join, unheld, element, some}
+use Rattle.css_meaning.proofs.Leftward.{IsStep, whole, first, split, join, unheld, element, some}
 use Rattle.css_meaning.specs.Matching.{holds, linked, matches_by, matches_back}
 use Rattle.css_meaning.specs.Siblings.{is_earlier, is_nearest_earlier}
-use Rattle.css_meaning.specs.Searching.{is_matched, is_matched_before, is_matched_above, is_promising, is_outer, IsMark, IsFound, KeepsBefore, KeepsAbove, IsSearch, left_of, IsOnward}
+use Rattle.css_meaning.specs.Searching.{is_matched, is_matched_before, is_matched_above, is_promising, is_outer, IsMark, IsFound, KeepsBefore, KeepsAbove, IsSearch, IsOnward}
 
 abbrev pub mark : ℕ → ℕ → Mark
 mark left row = record { left = left; row = row }

@@ -95,7 +95,8 @@ enum Wanted {
 }
 
 /// A part: its combinator, its name or `*`, and a simple selector.
-type Asked = (Link, &'static str, Wanted);
+#[derive(Clone, Copy)]
+struct Asked(Link, &'static str, Wanted);
 
 /// The simple selector itself.
 fn simple_of(alloc: Global, wanted: Wanted) -> Result<Option<Simple>, NoMemory> {
@@ -141,7 +142,7 @@ fn matched(
     }
     let tree = build(alloc, steps)?;
     let mut list = Vec::new(alloc);
-    for (link, name, wanted) in parts {
+    for Asked(link, name, wanted) in parts {
         list.push(part_of(alloc, *link, *name, *wanted)?)?;
     }
     let selector = Selector {
@@ -192,60 +193,60 @@ const NESTED: [Step; 12] = [
 
 /// `a + b ~ c`, which fails at the nearest `b`
 const RETRIED: [Asked; 3] = [
-    (Link::First, "a", Wanted::Any),
-    (Link::Next, "b", Wanted::Any),
-    (Link::Later, "c", Wanted::Any),
+    Asked(Link::First, "a", Wanted::Any),
+    Asked(Link::Next, "b", Wanted::Any),
+    Asked(Link::Later, "c", Wanted::Any),
 ];
 
 /// `a ~ b + c`
 const EARLIER: [Asked; 3] = [
-    (Link::First, "a", Wanted::Any),
-    (Link::Later, "b", Wanted::Any),
-    (Link::Next, "c", Wanted::Any),
+    Asked(Link::First, "a", Wanted::Any),
+    Asked(Link::Later, "b", Wanted::Any),
+    Asked(Link::Next, "c", Wanted::Any),
 ];
 
 /// `x ~ b ~ b`, where only one `b` follows the `x`
 const TWICE: [Asked; 3] = [
-    (Link::First, "x", Wanted::Any),
-    (Link::Later, "b", Wanted::Any),
-    (Link::Later, "b", Wanted::Any),
+    Asked(Link::First, "x", Wanted::Any),
+    Asked(Link::Later, "b", Wanted::Any),
+    Asked(Link::Later, "b", Wanted::Any),
 ];
 
 /// `a > b c`, which fails at the nearest `b` above
 const ABOVE: [Asked; 3] = [
-    (Link::First, "a", Wanted::Any),
-    (Link::Child, "b", Wanted::Any),
-    (Link::Descendant, "c", Wanted::Any),
+    Asked(Link::First, "a", Wanted::Any),
+    Asked(Link::Child, "b", Wanted::Any),
+    Asked(Link::Descendant, "c", Wanted::Any),
 ];
 
 /// `r > :nth-child(2n+1)`
 const ODD: [Asked; 2] = [
-    (Link::First, "r", Wanted::Any),
-    (Link::Child, "*", Wanted::Position(Nth::Child, 2, 1)),
+    Asked(Link::First, "r", Wanted::Any),
+    Asked(Link::Child, "*", Wanted::Position(Nth::Child, 2, 1)),
 ];
 
 /// `b:not(:first-of-type)`
-const NOT_FIRST: [Asked; 1] = [(Link::First, "b", Wanted::NotPosition(Nth::OfType, 0, 1))];
+const NOT_FIRST: [Asked; 1] = [Asked(Link::First, "b", Wanted::NotPosition(Nth::OfType, 0, 1))];
 
 /// `b > :not(c)`
 const OTHER: [Asked; 2] = [
-    (Link::First, "b", Wanted::Any),
-    (Link::Child, "*", Wanted::NotNamed("c")),
+    Asked(Link::First, "b", Wanted::Any),
+    Asked(Link::Child, "*", Wanted::NotNamed("c")),
 ];
 
 /// `.w`
-const CLASSED: [Asked; 1] = [(Link::First, "*", Wanted::Class("w"))];
+const CLASSED: [Asked; 1] = [Asked(Link::First, "*", Wanted::Class("w"))];
 
 /// `c:contains("bc")`, where the text lies over two rows
-const ACROSS: [Asked; 1] = [(Link::First, "c", Wanted::Contains("bc"))];
+const ACROSS: [Asked; 1] = [Asked(Link::First, "c", Wanted::Contains("bc"))];
 
 /// `i:contains("bc")`
-const WITHIN: [Asked; 1] = [(Link::First, "i", Wanted::Contains("bc"))];
+const WITHIN: [Asked; 1] = [Asked(Link::First, "i", Wanted::Contains("bc"))];
 
 /// `B ~ C:empty`
 const UPPER: [Asked; 2] = [
-    (Link::First, "B", Wanted::Any),
-    (Link::Later, "C", Wanted::Empty),
+    Asked(Link::First, "B", Wanted::Any),
+    Asked(Link::Later, "C", Wanted::Empty),
 ];
 
 #[test]

@@ -1,7 +1,7 @@
-use Rattle.std.proofs.Common.{◌≡◌, ◌-◌, ◌<◌, List, ℕ, length, take, drop, sym, ◌∙◌, ap, arith}
+use Rattle.std.proofs.Common.{◌≡◌, ◌-◌, ◌<◌, List, ℕ, length, take, drop, ◌∙◌, ap, arith}
 use Rattle.std.specs.Str.{bytes_eq}
 use Rattle.css_meaning.proofs.ByteWords.{word_chars}
-use Rattle.css_meaning.proofs.WordSteps.{behind_space, from_start, ends_later, word_found, word_passed}
+use Rattle.css_meaning.proofs.WordSteps.{behind_space, from_start, word_found, word_passed}
 use Rattle.css_meaning.proofs.attribute_values.has_word.Goals as goal
 
 pub loop-at-init : goal.loop-at-init

@@ -1,4 +1,4 @@
-use Rattle.std.proofs.Common.{◌≡◌, ◌-◌, ◌<◌, ◌≤◌, false, length, drop, get_or}
+use Rattle.std.proofs.Common.{◌≡◌, ◌-◌, ◌<◌, false, length, drop, get_or}
 use Rattle.std.specs.Str.{chars}
 use Rattle.text_base.specs.Strings.{is_among}
 use Rattle.text_base.specs.Text.{is_space5}

@@ -1,5 +1,4 @@
-use Rattle.std.proofs.Common.{◌≡◌, ◌-◌, take, length, map, sym, ◌∙◌, ap, arith}
-use Rattle.std.specs.Char.{to_ascii_lowercase}
+use Rattle.std.proofs.Common.{sym, ◌∙◌, arith}
 use Rattle.css_meaning.proofs.TextTests.{decides_same, lower_front, short_start, too_long}
 use Rattle.css_meaning.proofs.texts.begins_in_any_case.Goals as goal
 

@@ -1,5 +1,5 @@
 use Rattle.std.proofs.Common.{◌≡◌, List, ℕ, true, false, sym, ◌∙◌, ap}
-use Rattle.text_base.specs.Strings.{is_empty, contains}
+use Rattle.text_base.specs.Strings.{is_empty}
 use Rattle.text_base.specs.Text.{find_where, begins_with}
 use Rattle.css_meaning.proofs.ByteParts.{occurs_chars}
 use Rattle.css_meaning.proofs.TextTests.{none_empty, empty_part, part_found}
