@@ -1,14 +1,15 @@
 -- How a run without faults ends.
-use Rattle.std.proofs.Common.{◌≡◌, refl, ℕ, zero, suc, ◌<◌, List, [], ◌∷◌, Option, Some, None, length, sym, ◌∙◌, ap, arith, inl, inr, append-nil}
+use Rattle.std.proofs.Common.{◌≡◌, refl, ℕ, ◌<◌, List, [], Option, Some, None, length, sym, ◌∙◌, ap, arith, inl, inr, append-nil, subst}
 use Rattle.std.specs.Prelude.{IfSome, true, false, ◌⊎◌, slice_index_or}
 use Rattle.io_edges.specs.Counts.{Rose, Grows}
-use Rattle.io_edges.specs.Pages.{page, Lacks}
+use Rattle.io_edges.specs.Pages.{Lacks}
 use Rattle.io_edges.specs.Sink.{grown, TakesPart}
-use Rattle.extract_main.specs.Answers.{Answer, bytes_of}
+use Rattle.extract_main.specs.Answers.{Answer, bytes_of, line_bytes}
 use Rattle.extract_main.specs.Output.{names_of, answers, known, page_answers, HasAll, Written, Stopped, Completes, Lacking}
 use Rattle.extract_main.specs.Plans.{Plan, alone, over}
 use Rattle.extract_main.specs.Ending.{Ended}
 use Rattle.extract_main.proofs.OutputLemmas.{part_of_nothing, not_all, answers_lacking}
+use Rattle.extract_main.proofs.Turns.{turn_alone, turn_of_nothing}
 use Rattle.extract_main.specs.declared.status.Status.{Status}
 use Rattle.extract_main.specs.declared.status.Status.TheVariants.{Done, Refused, Usage, Memory, ReadFault, WriteFault}
 
@@ -20,6 +21,7 @@ nothing_written plan told b f old s = record {
   refused = λ z. absurd (cc);
   begun_all = neither;
   read_fault = λ z. absurd (cc);
+  in_turn = turn_of_nothing plan told old b;
   write_fault = λ z. absurd (cc);
   used = λ z. cc;
 }
@@ -31,6 +33,28 @@ nothing_written plan told b f old s = record {
     neither : (Memory ≡ Done) ⊎ (Memory ≡ Refused) → Grows b (length (names_of plan)) b
     neither (inl e) = absurd (cc)
     neither (inr e) = absurd (cc)
+
+-- a run without pages whose line was not written whole
+pub alone_stopped : (made a : Answer) (told : Option (List (List ℕ × List ℕ))) (b f : ℕ) (old new : Option (List ℕ)) (s s' : ℕ) (status : Status) →
+    TakesPart old (line_bytes made) new → made ≡ a → (status ≡ WriteFault → Rose s s') →
+    (status ≡ Done → ⊥) → (status ≡ Refused → ⊥) → (status ≡ Usage → ⊥) → (status ≡ ReadFault → ⊥) → Ended (alone a) told b b f f old new s s' status
+alone_stopped made a told b f old new s s' status t same wf nd nr nu nf = record {
+  prefix = rw (append-nil (line_bytes a)) part;
+  done = λ z. absurd (nd z);
+  refused = λ z. absurd (nr z);
+  begun_all = neither;
+  read_fault = λ z. absurd (nf z);
+  in_turn = turn_alone a told old new b part;
+  write_fault = wf;
+  used = nu;
+}
+  where
+    part : TakesPart old (line_bytes a) new
+    part = subst (λ (x : Answer). TakesPart old (line_bytes x) new) same t
+
+    neither : (status ≡ Done) ⊎ (status ≡ Refused) → Grows b (length (names_of (alone a))) b
+    neither (inl z) = absurd (nd z)
+    neither (inr z) = absurd (nr z)
 
 -- a run without pages meets no read fault
 pub no_read_fault : (plan : Plan) (told : Option (List (List ℕ × List ℕ))) (b b' f f' : ℕ) (old new : Option (List ℕ)) (s s' : ℕ) (status : Status)

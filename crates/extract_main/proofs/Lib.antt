@@ -11,5 +11,6 @@ pub mod PageReadings
 pub mod Plans
 pub mod Readers
 pub mod Readings
+pub mod Turns
 pub mod ValueLemmas
 pub mod Walk

@@ -1,20 +1,21 @@
 -- A run over pages, up to one of them.
-use Rattle.std.proofs.Common.{◌≡◌, ◌≢◌, ℕ, zero, suc, ◌+◌, ◌<◌, ◌≤◌, ◌++◌, List, [], ◌∷◌, Option, Some, None, length, take, drop, refl, sym, ◌∙◌, ap, append_assoc, arith, inl, inr, add-one, string_bytes, map, get_or}
+use Rattle.std.proofs.Common.{◌≡◌, ◌≢◌, ℕ, zero, suc, ◌+◌, ◌<◌, ◌≤◌, ◌++◌, List, [], ◌∷◌, Option, Some, None, length, take, drop, refl, sym, ◌∙◌, ap, arith, inl, inr, add-one, string_bytes, map, get_or}
 use Rattle.std.specs.Prelude.{IfSome, Bool, true, false, ◌||◌, ◌⊎◌, String, slice_index_or}
 use Rattle.std.specs.declared.alloc.Global.{Global}
 use Rattle.std.proofs.lemmas.List.{append-nil}
 use Rattle.io_edges.specs.Counts.{Rose, Grows}
 use Rattle.io_edges.specs.Pages.{page, Lacks}
 use Rattle.io_edges.specs.Sink.{grown, TakesPart}
-use Rattle.io_edges.proofs.SinkLemmas.{grown-grown, grown-nil, takes_nothing}
+use Rattle.io_edges.proofs.SinkLemmas.{grown-grown, grown-nil}
 use Rattle.extract_main.specs.Answers.{Answer, bytes_of, refuses, line_bytes}
-use Rattle.extract_main.specs.Output.{page_answers, HasAll, Written, Stopped}
-use Rattle.extract_main.specs.Plans.{alone, over}
+use Rattle.extract_main.specs.Output.{page_answers, HasAll, Written}
+use Rattle.extract_main.specs.Plans.{over}
 use Rattle.extract_main.specs.Ending.{Ended}
 use Rattle.extract_main.specs.OnePage.{TakesLine, TakesLinePart}
 use Rattle.extract_main.specs.declared.status.Status.{Status}
-use Rattle.extract_main.specs.declared.status.Status.TheVariants.{Done, Refused, Usage, Memory, ReadFault, WriteFault}
-use Rattle.extract_main.proofs.OutputLemmas.{part_of_nothing, part_of_front, part_behind, part_whole, bytes_of-append, refuses-append, answers_cut, answers_next, answers_more, there_next}
+use Rattle.extract_main.specs.declared.status.Status.TheVariants.{Done, Refused, Usage, ReadFault, WriteFault}
+use Rattle.extract_main.proofs.OutputLemmas.{part_of_front, part_behind, part_whole, bytes_of-append, refuses-append, answers_cut, answers_next, answers_more, there_next}
+use Rattle.extract_main.proofs.Turns.{turn_at, turn_behind}
 
 -- the lines of the first pages were written
 pub record SoFar (line : List ℕ → List ℕ → Answer) (told : List (List ℕ × List ℕ)) (names : List (List ℕ)) (i : ℕ) (old taken : Option (List ℕ)) (refused : Bool) : Type 0 where
@@ -109,6 +110,7 @@ ended_at line told names i old mid new refused name b bi b' f fi f' s si s' stat
     there = there_so_far line told names i old mid refused h;
     written = are_so_far line told names i old mid new refused h (rf e).1;
   };
+  in_turn = turn_at line told names i old mid new name b bi b' (are_so_far line told names i old mid mid refused h refl) (there_so_far line told names i old mid refused h) w n gb gb' t;
   write_fault = λ e. rose_from s si s' ls (wf e);
   used = nu;
 }
@@ -144,6 +146,7 @@ ended_done line told names i old new b b' f f' s s' h e gb = record {
   refused = λ z. absurd (cc);
   begun_all = λ z. rw (← e) gb;
   read_fault = λ z. absurd (cc);
+  in_turn = turn_behind line told names i old new b b' (are_so_far line told names i old new new false h refl) (there_so_far line told names i old new false h) (omega arith) gb;
   write_fault = λ z. absurd (cc);
   used = λ z. cc;
 }
@@ -156,6 +159,7 @@ ended_refused line told names i old new b b' f f' s s' h e gb = record {
   refused = λ z. written_all line told names old new true (rw e at h);
   begun_all = λ z. rw (← e) gb;
   read_fault = λ z. absurd (cc);
+  in_turn = turn_behind line told names i old new b b' (are_so_far line told names i old new new true h refl) (there_so_far line told names i old new true h) (omega arith) gb;
   write_fault = λ z. absurd (cc);
   used = λ z. cc;
 }

@@ -3,7 +3,7 @@ use Rattle.std.specs.Prelude.{◌≡◌, ◌≢◌, ℕ, ◌⊎◌, true, false,
 use Rattle.io_edges.specs.Counts.{Rose, Grows}
 use Rattle.io_edges.specs.Sink.{TakesPart}
 use Rattle.extract_main.specs.Answers.{bytes_of}
-use Rattle.extract_main.specs.Output.{names_of, answers, known, Stopped, Written}
+use Rattle.extract_main.specs.Output.{names_of, answers, known, Stopped, InTurn, Written}
 use Rattle.extract_main.specs.Plans.{Plan}
 use Rattle.extract_main.specs.declared.status.Status.{Status}
 use Rattle.extract_main.specs.declared.status.Status.TheVariants.{Done, Refused, Usage, ReadFault, WriteFault}
@@ -14,5 +14,6 @@ pub record Ended (plan : Plan) (told : Option (List (List ℕ × List ℕ))) (be
   pub refused : status ≡ Refused → IfSome (known plan told) (λ pages. Written plan pages taken taken' true)
   pub begun_all : (status ≡ Done) ⊎ (status ≡ Refused) → Grows begun (length (names_of plan)) begun'
   pub read_fault : status ≡ ReadFault → Stopped plan told begun begun' faults faults' taken taken'
+  pub in_turn : InTurn plan told begun begun' taken taken'
   pub write_fault : status ≡ WriteFault → Rose sink sink'
   pub used : status ≢ Usage

@@ -1,9 +1,9 @@
 -- What a run writes, and how it ends.
-use Rattle.std.specs.Prelude.{◌≡◌, ◌≢◌, ◌<◌, ℕ, ◌+◌, ◌⊎◌, Bool, true, false, List, [], ◌∷◌, length, take, Option, Some, None, IfSome, slice_index_or}
+use Rattle.std.specs.Prelude.{◌≡◌, ◌≢◌, ◌<◌, ◌≤◌, ℕ, ◌+◌, ◌⊎◌, Bool, true, false, List, [], ◌∷◌, length, take, drop, Option, Some, None, IfSome, slice_index_or}
 use Rattle.std.specs.Option.{option_map_or}
 use Rattle.io_edges.specs.Counts.{Rose, Grows}
 use Rattle.io_edges.specs.Pages.{page, Lacks}
-use Rattle.io_edges.specs.Sink.{grown}
+use Rattle.io_edges.specs.Sink.{grown, TakesPart}
 use Rattle.extract_main.specs.Answers.{Answer, bytes_of, refuses}
 use Rattle.extract_main.specs.Plans.{Plan, alone, over}
 use Rattle.extract_main.specs.declared.status.Status.{Status}
@@ -47,6 +47,23 @@ pub record Stopped (plan : Plan) (told : Option (List (List ℕ × List ℕ))) (
   pub cause : Rose faults faults' ⊎ Lacks told (slice_index_or (names_of plan) before [])
   pub there : IfSome told (λ pages. HasAll pages (take before (names_of plan)))
   pub written : IfSome told (λ pages. taken' ≡ grown taken (bytes_of (first_answers plan pages before)))
+
+-- the lines that stand open where so many pages were written and so many begun: that of the page in turn, and that of a run without pages
+abbrev pub open_answers : Plan → List (List ℕ × List ℕ) → ℕ → ℕ → List Answer
+open_answers (alone a) told i j = a ∷ []
+open_answers (over line names) told i j = page_answers line told (drop i (take j names))
+
+-- The pages come in turn: a page is begun when the lines of all pages before it are written and not earlier, and no other is begun
+-- while its own line is not written whole.
+pub record InTurn (plan : Plan) (told : Option (List (List ℕ × List ℕ))) (begun begun' : ℕ) (taken taken' : Option (List ℕ)) : Type 0 where
+  pub before : ℕ
+  pub begins : ℕ
+  pub next : (begins ≡ before) ⊎ (begins ≡ before + 1)
+  pub within : begins ≤ length (names_of plan)
+  pub count : Grows begun begins begun'
+  pub there : IfSome (known plan told) (λ pages. HasAll pages (take before (names_of plan)))
+  pub written : IfSome (known plan told) (λ pages.
+      TakesPart (grown taken (bytes_of (first_answers plan pages before))) (bytes_of (open_answers plan pages before begins)) taken')
 
 -- each page is there, all lines were written, and the truth of the output is this
 pub record Written (plan : Plan) (told : List (List ℕ × List ℕ)) (taken taken' : Option (List ℕ)) (refused : Bool) : Type 0 where

@@ -31,6 +31,7 @@ fn read_line<P: Pages>(
     ensures told { P.told pages.new ≡ P.told pages.old }
     ensures begun { Grows (P.begun pages.old) 1 (P.begun pages.new) }
     ensures never_falls { P.faults pages.old ≤ P.faults pages.new }
+    ensures uncounted { ¬ IsErrOf result Status.ReadFault → P.faults pages.new ≡ P.faults pages.old }
     ensures ok { IfOk result (λ line. IfSome (P.told pages.old) (λ told. (bytes : List ℕ) × ((page told name.now ≡ Some bytes) × IsPageLine fields.now name.now bytes (answer_of line)))) }
     ensures read_fault { IsErrOf result Status.ReadFault → Rose (P.faults pages.old) (P.faults pages.new) ⊎ Lacks (P.told pages.old) name.now }
     ensures other { (result ≢ Err Status.Done) × (result ≢ Err Status.Refused) × (result ≢ Err Status.Usage) × (result ≢ Err Status.WriteFault) }
@@ -60,6 +61,8 @@ fn write_page<P: Pages, W: Sink>(
     ensures begun { Grows (P.begun pages.old) 1 (P.begun pages.new) }
     ensures page_faults { P.faults pages.old ≤ P.faults pages.new }
     ensures sink_faults { W.faults sink.old ≤ W.faults sink.new }
+    ensures pages_uncounted { ¬ IsErrOf result Status.ReadFault → P.faults pages.new ≡ P.faults pages.old }
+    ensures sink_uncounted { ¬ IsErrOf result Status.WriteFault → W.faults sink.new ≡ W.faults sink.old }
     ensures ok { IfOk result (λ r. (line : List ℕ → List ℕ → Answer) → MakesLines fields.now line → TakesLine line (P.told pages.old) name.now (W.taken sink.old) (W.taken sink.new) r) }
     ensures err { OnErr result ((line : List ℕ → List ℕ → Answer) → MakesLines fields.now line →
         (W.taken sink.new ≡ W.taken sink.old) ⊎ TakesLinePart line (P.told pages.old) name.now (W.taken sink.old) (W.taken sink.new)) }
@@ -88,6 +91,8 @@ pub fn write_pages<P: Pages, W: Sink>(
     ensures told { P.told pages.new ≡ P.told pages.old }
     ensures page_faults { P.faults pages.old ≤ P.faults pages.new }
     ensures sink_faults { W.faults sink.old ≤ W.faults sink.new }
+    ensures pages_uncounted { result ≢ Status.ReadFault → P.faults pages.new ≡ P.faults pages.old }
+    ensures sink_uncounted { result ≢ Status.WriteFault → W.faults sink.new ≡ W.faults sink.old }
     ensures idle { names.now ≡ [] → pages.new ≡ pages.old }
     ensures ended { (line : List ℕ → List ℕ → Answer) → MakesLines fields.now line → Ended (over line (map string_bytes names.now)) (P.told pages.old)
         (P.begun pages.old) (P.begun pages.new) (P.faults pages.old) (P.faults pages.new)

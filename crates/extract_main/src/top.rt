@@ -11,7 +11,7 @@ ghost use Rattle.query_script.specs.Ordered.{IsOrdered};
 ghost use Rattle.extract_main.specs.Answers.{bytes_of};
 ghost use Rattle.extract_main.specs.CssLines.{IsKept};
 ghost use Rattle.extract_main.specs.Ending.{Ended};
-ghost use Rattle.extract_main.specs.Output.{names_of, answers, known, HasAll, Written, Stopped, Completes, Lacking};
+ghost use Rattle.extract_main.specs.Output.{names_of, answers, known, HasAll, Written, Stopped, InTurn, Completes, Lacking};
 ghost use Rattle.extract_main.specs.Plans.{Plan, ForPlan, IsPlan};
 ghost use Rattle.extract_main.specs.Words.{Command, css, run, bulk, read, command_of};
 
@@ -33,6 +33,8 @@ fn write_css<W: Sink>(alloc: Global, dialect: Dialect, selector: &str, sink: &mu
         Ended plan told b b f f (W.taken sink.old) (W.taken sink.new) (W.faults sink.old) (W.faults sink.new) result) }
     ensures meaning { (list : SelectorList) → Accepts selector.now list → result ≡ Status.Done → IsKept dialect list }
     ensures planned { result ≢ Status.Memory → (plan : Plan) × IsPlan (css dialect selector.now) plan }
+    ensures never_falls { W.faults sink.old ≤ W.faults sink.new }
+    ensures uncounted { result ≢ Status.WriteFault → W.faults sink.new ≡ W.faults sink.old }
     ensures write_fault { result ≡ Status.WriteFault → Rose (W.faults sink.old) (W.faults sink.new) }
     ensures other { result ≢ Status.Usage }
 {
@@ -46,6 +48,8 @@ fn write_bulk<W: Sink>(alloc: Global, n: u32, sink: &mut W) -> Status
     ensures ended { ForPlan (Some (bulk n)) (λ plan. (told : Option (List (List ℕ × List ℕ))) → (b : ℕ) → (f : ℕ) →
         Ended plan told b b f f (W.taken sink.old) (W.taken sink.new) (W.faults sink.old) (W.faults sink.new) result) }
     ensures planned { result ≢ Status.Memory → (plan : Plan) × IsPlan (bulk n) plan }
+    ensures never_falls { W.faults sink.old ≤ W.faults sink.new }
+    ensures uncounted { result ≢ Status.WriteFault → W.faults sink.new ≡ W.faults sink.old }
     ensures write_fault { result ≡ Status.WriteFault → Rose (W.faults sink.old) (W.faults sink.new) }
     ensures other { result ≢ Status.Usage }
 {
@@ -62,6 +66,10 @@ fn write_run<P: Pages, W: Sink>(
     sink: &mut W,
 ) -> Status
     ensures told { P.told pages.new ≡ P.told pages.old }
+    ensures page_faults { P.faults pages.old ≤ P.faults pages.new }
+    ensures sink_faults { W.faults sink.old ≤ W.faults sink.new }
+    ensures pages_uncounted { result ≢ Status.ReadFault → P.faults pages.new ≡ P.faults pages.old }
+    ensures sink_uncounted { result ≢ Status.WriteFault → W.faults sink.new ≡ W.faults sink.old }
     ensures ended { ForPlan (Some (run dialect script.now (map string_bytes names.now))) (λ plan. Ended plan (P.told pages.old)
         (P.begun pages.old) (P.begun pages.new) (P.faults pages.old) (P.faults pages.new)
         (W.taken sink.old) (W.taken sink.new) (W.faults sink.old) (W.faults sink.new) result) }
@@ -89,6 +97,10 @@ fn write_form<P: Pages, W: Sink>(
     ensures usage { result ≡ Status.Usage ↔ command_of form.entry ≡ None }
     ensures nothing { command_of form.entry ≡ None → (pages.new ≡ pages.old) × (sink.new ≡ sink.old) }
     ensures told { P.told pages.new ≡ P.told pages.old }
+    ensures page_faults { P.faults pages.old ≤ P.faults pages.new }
+    ensures sink_faults { W.faults sink.old ≤ W.faults sink.new }
+    ensures pages_uncounted { result ≢ Status.ReadFault → P.faults pages.new ≡ P.faults pages.old }
+    ensures sink_uncounted { result ≢ Status.WriteFault → W.faults sink.new ≡ W.faults sink.old }
     ensures ended { ForPlan (command_of form.entry) (λ plan. Ended plan (P.told pages.old)
         (P.begun pages.old) (P.begun pages.new) (P.faults pages.old) (P.faults pages.new)
         (W.taken sink.old) (W.taken sink.new) (W.faults sink.old) (W.faults sink.new) result) }
@@ -131,6 +143,10 @@ pub fn extract<P: Pages, W: Sink>(
     ensures prefix { ForPlan (read (map string_bytes words.now)) (λ plan. IfSome (known plan (P.told pages.old)) (λ told.
         TakesPart (W.taken sink.old) (bytes_of (answers plan told)) (W.taken sink.new))) }
 
+    // Whatever the status, a page was begun only after the lines of all pages before it were written.
+    ensures in_turn { ForPlan (read (map string_bytes words.now)) (λ plan. InTurn plan (P.told pages.old)
+        (P.begun pages.old) (P.begun pages.new) (W.taken sink.old) (W.taken sink.new)) }
+
     // All was written, and each page was read.
     ensures done { ForPlan (read (map string_bytes words.now)) (λ plan. result ≡ Status.Done → IfSome (known plan (P.told pages.old)) (λ told.
         Written plan told (W.taken sink.old) (W.taken sink.new) false)) }
@@ -143,6 +159,12 @@ pub fn extract<P: Pages, W: Sink>(
     ensures read_fault { ForPlan (read (map string_bytes words.now)) (λ plan. result ≡ Status.ReadFault → Stopped plan (P.told pages.old)
         (P.begun pages.old) (P.begun pages.new) (P.faults pages.old) (P.faults pages.new) (W.taken sink.old) (W.taken sink.new)) }
     ensures write_fault { result ≡ Status.WriteFault → Rose (W.faults sink.old) (W.faults sink.new) }
+
+    // The counts of faults never fall, and each rises only in a run that ends by such a fault.
+    ensures page_faults { P.faults pages.old ≤ P.faults pages.new }
+    ensures sink_faults { W.faults sink.old ≤ W.faults sink.new }
+    ensures pages_uncounted { result ≢ Status.ReadFault → P.faults pages.new ≡ P.faults pages.old }
+    ensures sink_uncounted { result ≢ Status.WriteFault → W.faults sink.new ≡ W.faults sink.old }
 
     // Where no fault rises.
     ensures complete { ¬ Rose (P.faults pages.old) (P.faults pages.new) → ¬ Rose (W.faults sink.old) (W.faults sink.new) →

@@ -16,6 +16,7 @@ pub fn write_line<W: Sink>(line: Line, sink: &mut W) -> Result<bool, Status>
     ensures ok { IfOk result (λ r. ((answer_of line).refused ≡ r) × (W.taken sink.new ≡ grown (W.taken sink.old) (line_bytes (answer_of line)))) }
     ensures err { OnErr result (TakesPart (W.taken sink.old) (line_bytes (answer_of line)) (W.taken sink.new)) }
     ensures never_falls { W.faults sink.old ≤ W.faults sink.new }
+    ensures uncounted { ¬ IsErrOf result Status.WriteFault → W.faults sink.new ≡ W.faults sink.old }
     ensures write_fault { IsErrOf result Status.WriteFault → Rose (W.faults sink.old) (W.faults sink.new) }
     ensures other { (result ≢ Err Status.Done) × (result ≢ Err Status.Refused) × (result ≢ Err Status.Usage) × (result ≢ Err Status.ReadFault) }
 {
@@ -35,6 +36,8 @@ pub fn write_line<W: Sink>(line: Line, sink: &mut W) -> Result<bool, Status>
 pub fn write_alone<W: Sink>(made: Result<Line, NoMemory>, sink: &mut W) -> Status
     ensures ended { (told : Option (List (List ℕ × List ℕ))) → (b : ℕ) → (f : ℕ) → (a : Answer) → IfOk made (λ line. answer_of line ≡ a) →
         Ended (alone a) told b b f f (W.taken sink.old) (W.taken sink.new) (W.faults sink.old) (W.faults sink.new) result }
+    ensures never_falls { W.faults sink.old ≤ W.faults sink.new }
+    ensures uncounted { result ≢ Status.WriteFault → W.faults sink.new ≡ W.faults sink.old }
     ensures done { result ≡ Status.Done → IsOkAnd made (λ line. line.refused ≡ false) }
     ensures write_fault { result ≡ Status.WriteFault → Rose (W.faults sink.old) (W.faults sink.new) }
     ensures made { result ≢ Status.Memory → IsOk made }

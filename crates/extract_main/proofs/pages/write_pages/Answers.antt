@@ -1,6 +1,6 @@
 use Rattle.std.proofs.Common.{◌≡◌, arith, length, string_bytes, map, ◌∙◌}
 use Rattle.std.specs.Prelude.{◌||◌}
-use Rattle.extract_main.proofs.Walk.{ended_at, ended_done, ended_refused, none_yet, next_page, name_at, place_within, places}
+use Rattle.extract_main.proofs.Walk.{ended_at, ended_done, ended_refused, next_page, name_at, place_within, places}
 use Rattle.extract_main.proofs.pages.write_pages.Goals as goal
 use Rattle.extract_main.proofs.pages.write_pages.Goals.{then-refused, else-refused}
 
@@ -12,8 +12,8 @@ loop-name-preserved g c =
     record {
       told = c.in-Ok.ensures.told ∙ c.loop-name.invariant.told;
       begun = omega (arith, c.loop-name.invariant.begun, c.in-Ok.ensures.begun);
-      page_faults = omega (arith, c.in-Ok.ensures.page_faults);
-      sink_faults = omega (arith, c.in-Ok.ensures.sink_faults);
+      pages_uncounted = c.in-Ok.ensures.pages_uncounted (λ z. cc) ∙ c.loop-name.invariant.pages_uncounted;
+      sink_uncounted = c.in-Ok.ensures.sink_uncounted (λ z. cc) ∙ c.loop-name.invariant.sink_uncounted;
       idle = λ z. absurd (omega arith);
       written = λ line makes. rw or (next_page line (g.P.Pages.told c.args.pages.now) (map string_bytes c.args.names.now) c.loop-name.name-index _ _ _ c.loop-name.refused c.in-Ok.one (string_bytes c.name-item.result) (c.loop-name.invariant.written line makes) (place_within c.args.names.now c.loop-name.name-index c.loop-name-test.true) here (ok line makes));
     }
@@ -24,7 +24,7 @@ returns-in-Err-clause-ended g c = λ line makes.
     let part = rw (c.loop-name.invariant.told, c.as_str.ensures.value) at c.in-Err.ensures.err in
     let cause = rw (c.loop-name.invariant.told, c.as_str.ensures.value) at c.in-Err.ensures.read_fault in
     ended_at line (g.P.Pages.told c.args.pages.now) (map string_bytes c.args.names.now) c.loop-name.name-index _ _ _ c.loop-name.refused (string_bytes c.name-item.result)
-    _ _ _ _ _ _ _ _ _ _ (c.loop-name.invariant.written line makes) (place_within c.args.names.now c.loop-name.name-index c.loop-name-test.true) here c.loop-name.invariant.begun c.in-Err.ensures.begun c.loop-name.invariant.page_faults c.loop-name.invariant.sink_faults (part line makes)
+    _ _ _ _ _ _ _ _ _ _ (c.loop-name.invariant.written line makes) (place_within c.args.names.now c.loop-name.name-index c.loop-name-test.true) here c.loop-name.invariant.begun c.in-Err.ensures.begun (omega (arith, c.loop-name.invariant.pages_uncounted)) (omega (arith, c.loop-name.invariant.sink_uncounted)) (part line makes)
     (λ e. cause (cc)) (λ e. c.in-Err.ensures.write_fault (cc)) (λ e. c.in-Err.ensures.other.0 (cc)) (λ e. c.in-Err.ensures.other.1 (cc)) (λ e. c.in-Err.ensures.other.2 (cc))
 
 pub returns-then-refused-2-clause-ended : goal.returns-then-refused-2-clause-ended

@@ -1,8 +1,6 @@
-use Rattle.std.proofs.Common.{◌≡◌, ℕ, List, ◌≤◌, map, string_bytes}
+use Rattle.std.proofs.Common.{◌≡◌, ℕ, List, map, string_bytes}
 use Rattle.std.specs.Prelude.{IfSome}
-use Rattle.std.specs.List.{AllByRecursion}
 use Rattle.io_edges.specs.Counts.{Grows}
-use Rattle.query_script.specs.Ordered.{IsOrdered}
 use Rattle.extract_main.specs.Answers.{Answer}
 use Rattle.extract_main.specs.PageLines.{MakesLines}
 use Rattle.extract_main.proofs.Walk.{SoFar}
@@ -12,8 +10,8 @@ abbrev pub invariant-loop-name : goal.invariant-loop-name
 invariant-loop-name g l = record {
   told : g.P.Pages.told l.pages ≡ g.P.Pages.told l.fn.pages;
   begun : Grows (g.P.Pages.begun l.fn.pages) l.name-index (g.P.Pages.begun l.pages);
-  page_faults : g.P.Pages.faults l.fn.pages ≤ g.P.Pages.faults l.pages;
-  sink_faults : g.W.Sink.faults l.fn.sink ≤ g.W.Sink.faults l.sink;
+  pages_uncounted : g.P.Pages.faults l.pages ≡ g.P.Pages.faults l.fn.pages;
+  sink_uncounted : g.W.Sink.faults l.sink ≡ g.W.Sink.faults l.fn.sink;
   idle : l.name-index ≡ 0 → l.pages ≡ l.fn.pages;
   written : (line : List ℕ → List ℕ → Answer) → MakesLines l.fields line → IfSome (g.P.Pages.told l.fn.pages) (λ told. SoFar line told (map string_bytes l.names) l.name-index (g.W.Sink.taken l.fn.sink) (g.W.Sink.taken l.sink) l.refused);
 }
