@@ -74,12 +74,12 @@ fn refused_pages(rt: HostRuntime) -> Result<(), Fail> {
             "{\"at\":5,\"page\":\"a.html\",\"refused\":\"page.Unclosed\"}\n",
         ),
         (
-            "x<p>",
+            "x<html>",
             "{\"at\":0,\"page\":\"a.html\",\"refused\":\"page.TextOutside\"}\n",
         ),
         (
-            "<p>a</p><p>b</p>",
-            "{\"at\":8,\"page\":\"a.html\",\"refused\":\"page.SecondRoot\"}\n",
+            "<html></html><p>",
+            "{\"at\":13,\"page\":\"a.html\",\"refused\":\"page.SecondRoot\"}\n",
         ),
         (
             "<p>\0",

@@ -13,7 +13,8 @@ use Rattle.html_reader.specs.Tokens.{Attr, Tag, comment}
 use Rattle.html_reader.specs.Rows.{sofar, flushed, text_rows, row_of_text, row_of_element, row_of_attribute, row_of_comment, tag_rows}
 use Rattle.html_reader.specs.Places.{Grown, below}
 use Rattle.doc_model.specs.Growing.{innermost}
-use Rattle.html_reader.specs.Machine.{held, settled, state, opened, closed, without_first}
+use Rattle.html_reader.specs.Machine.{held, settled, state, with_some, after_leaf, opened, closed, without_first}
+use Rattle.html_reader.specs.declared.reader.Root.{Root}
 use Rattle.doc_model.specs.Growing.{Growing, growing, with_attr, with_text, with_comment, with_element, with_close, rest_of, AwaitsAttr}
 use Rattle.html_reader.specs.Kept.{IsNew, AreKept, EndsInElement}
 use Rattle.html_reader.specs.Pieces.{owned_bytes}
@@ -180,8 +181,8 @@ tags_push tags [] t = refl
 tags_push tags (x ∷ ts) t = tags_push (tag_of x ∷ tags) ts t
 
 -- a start tag: the text that waits, the element, its attributes
-pub starts_tag : (g f e a : Growing) (waits left : List ℕ) (items new : List StartTag) (rooted : Bool) (t : StartTag) → grown_of f left ≡ settled (grown_of g waits) → (name : List ℕ) → name ≡ chars (owned_bytes t.name) → e ≡ with_element f name
-    → (attrs : List code.Attr) → attrs ≡ t.attrs.items → a ≡ attrs_grown e attrs → new ≡ items ++ t ∷ [] → the_state new true a left ≡ opened (the_state items rooted g waits) (tag_of t)
+pub starts_tag : (g f e a : Growing) (waits left : List ℕ) (items new : List StartTag) (rooted : Root) (t : StartTag) → grown_of f left ≡ settled (grown_of g waits) → (name : List ℕ) → name ≡ chars (owned_bytes t.name) → e ≡ with_element f name
+    → (attrs : List code.Attr) → attrs ≡ t.attrs.items → a ≡ attrs_grown e attrs → new ≡ items ++ t ∷ [] → the_state new (with_some rooted) a left ≡ opened (the_state items rooted g waits) (tag_of t)
 starts_tag g f e a waits left items new rooted t settles name named began taken_attrs same_attrs took pushed =
     let begun : e ≡ with_element f (chars (owned_bytes t.name)) = began ∙ ap (with_element f) named in
     let filled : a ≡ attrs_grown e t.attrs.items = took ∙ ap (attrs_grown e) same_attrs in
@@ -189,10 +190,10 @@ starts_tag g f e a waits left items new rooted t settles name named began taken_
     let opens : f.open_rows ≡ g.open_rows = ap (λ (x : Grown). x.open_rows) settles in
     let none : left ≡ [] = ap (λ (x : Grown). x.sofar.waits) settles in
     let attrs = map attr_of t.attrs.items in
-    (λ i. state ((ap (tags_onto []) pushed ∙ tags_push [] items t) i) true (grown_of ((filled ∙ ap (λ x. attrs_grown x t.attrs.items) begun) i) (none i)))
-    ∙ ap (λ r. state (tag_of t ∷ tags_onto [] items) true (below (length f.rows ∷ f.open_rows) (sofar r [])))
+    (λ i. state ((ap (tags_onto []) pushed ∙ tags_push [] items t) i) (with_some rooted) (grown_of ((filled ∙ ap (λ x. attrs_grown x t.attrs.items) begun) i) (none i)))
+    ∙ ap (λ r. state (tag_of t ∷ tags_onto [] items) (with_some rooted) (below (length f.rows ∷ f.open_rows) (sofar r [])))
     (append_assoc f.rows (row_of_element (innermost f.open_rows) (owned_bytes t.name) ∷ []) (map (row_of_attribute (length f.rows)) attrs))
-    ∙ (λ i. state (tag_of t ∷ tags_onto [] items) true (below (length (rows i) ∷ opens i) (sofar (rows i ++ tag_rows (innermost (opens i)) (length (rows i)) (tag_of t)) [])))
+    ∙ (λ i. state (tag_of t ∷ tags_onto [] items) (with_some rooted) (below (length (rows i) ∷ opens i) (sofar (rows i ++ tag_rows (innermost (opens i)) (length (rows i)) (tag_of t)) [])))
 
 -- the rows end in the element that was begun
 pub ends_in : (g f e : Growing) (waits left : List ℕ) (name text : List ℕ) → grown_of f left ≡ settled (grown_of g waits) → innermost g.open_rows < length g.rows → Within g.rows → text ≡ chars name → e ≡ with_element f text → EndsInElement e
@@ -215,7 +216,7 @@ settled_room g f waits left settles =
     omega (arith, ap (λ (x : Grown). length x.sofar.rows) settles, length-append g.rows (text_rows (innermost g.open_rows) waits), text_few (innermost g.open_rows) waits)
 
 -- an end: the text that waits, then the close
-pub ends_tag : (g f c : Growing) (waits left : List ℕ) (items new : List StartTag) (rooted : Bool) (t : StartTag) → grown_of f left ≡ settled (grown_of g waits) → c ≡ with_close f
+pub ends_tag : (g f c : Growing) (waits left : List ℕ) (items new : List StartTag) (rooted : Root) (t : StartTag) → grown_of f left ≡ settled (grown_of g waits) → c ≡ with_close f
     → items ≡ new ++ t ∷ [] → the_state new rooted c left ≡ closed (the_state items rooted g waits)
 ends_tag g f c waits left items new rooted t settles shuts popped =
     let rows : f.rows ≡ flushed (innermost g.open_rows) (sofar g.rows waits) = ap (λ (x : Grown). x.sofar.rows) settles in
@@ -230,17 +231,17 @@ ends_tag g f c waits left items new rooted t settles shuts popped =
     same_rest [] = refl
     same_rest (n ∷ ns) = refl
 
-pub ends_pop : (g f c : Growing) (waits left : List ℕ) (items mid new : List StartTag) (rooted flag : Bool) (r : Option StartTag) (n : ℕ) → grown_of f left ≡ settled (grown_of g waits) → c ≡ with_close f
+pub ends_pop : (g f c : Growing) (waits left : List ℕ) (items mid new : List StartTag) (rooted flag : Root) (r : Option StartTag) (n : ℕ) → grown_of f left ≡ settled (grown_of g waits) → c ≡ with_close f
     → mid ≡ items → flag ≡ rooted → mid ≡ new ++ option_to_list r → (IsSome r ↔ (0 < n)) → 0 < n → the_state new flag c left ≡ closed (the_state items rooted g waits)
 ends_pop g f c waits left items mid new rooted flag (Some t) n settles shuts same kept popped rest some =
     ap (λ b. the_state new b c left) kept ∙ ends_tag g f c waits left items new rooted t settles shuts (sym same ∙ popped)
 ends_pop g f c waits left items mid new rooted flag None n settles shuts same kept popped rest some = let no : IsSome {T = StartTag} None = rest.1 some in cc
 
-pub stays_open : (g f : Growing) (waits left : List ℕ) (items : List StartTag) → grown_of f left ≡ settled (grown_of g waits) → length g.open_rows ≡ length (tags_onto [] items) → 0 < length items → f.open_rows ≡ [] → ⊥
-stays_open g f waits left items settles level some none = omega (arith, ap (λ (x : Grown). length x.open_rows) settles, ap length none, level, length-tags [] items)
+pub stays_open : (g f : Growing) (waits left : List ℕ) (items : List StartTag) (m : ℕ) → grown_of f left ≡ settled (grown_of g waits) → length g.open_rows ≡ m + length (tags_onto [] items) → 0 < length items → f.open_rows ≡ [] → ⊥
+stays_open g f waits left items m settles level some none = omega (arith, ap (λ (x : Grown). length x.open_rows) settles, ap length none, level, length-tags [] items)
 
 -- a comment: the text that waits, then its row
-pub comments : (g f c : Growing) (waits left : List ℕ) (items new : List StartTag) (rooted flag : Bool) (content : List ℕ) → grown_of f left ≡ settled (grown_of g waits) → c ≡ with_comment f (chars content)
+pub comments : (g f c : Growing) (waits left : List ℕ) (items new : List StartTag) (rooted flag : Root) (content : List ℕ) → grown_of f left ≡ settled (grown_of g waits) → c ≡ with_comment f (chars content)
     → new ≡ items → flag ≡ rooted → the_state new flag c left ≡ held (the_state items rooted g waits) (comment content)
 comments g f c waits left items new rooted flag content settles told same kept =
     let rows : f.rows ≡ flushed (innermost g.open_rows) (sofar g.rows waits) = ap (λ (x : Grown). x.sofar.rows) settles in

@@ -4,8 +4,8 @@ use Rattle.std.specs.Prelude.{not}
 use Rattle.html_reader.specs.Tokens.{Attr, Tag, text, comment, doctype}
 use Rattle.html_reader.specs.Forest.{Forest, nothing, then_leaf, then_element}
 use Rattle.doc_model.specs.Document.{Row, is_text_kind, is_attribute_kind}
-use Rattle.html_reader.specs.Rows.{Sofar, sofar, fresh, flushed, entered, with_leaf, grown, row_of_attribute, row_of_comment, text_rows, tag_rows}
-use Rattle.html_reader.specs.Places.{Place, outside, within, place_grown, Grown, below}
+use Rattle.html_reader.specs.Rows.{Sofar, sofar, flushed, entered, with_leaf, grown, row_of_attribute, row_of_comment, text_rows, tag_rows}
+use Rattle.html_reader.specs.Places.{Place, outside, within, base, place_grown, Grown, below}
 use Rattle.doc_model.specs.Growing.{innermost}
 use Rattle.html_reader.specs.Parents.{Small, Within}
 use Rattle.html_reader.specs.Children.{ends_in_text, is_child}
@@ -178,11 +178,15 @@ calm_piece open_rows s piece h =
       calm = calm (innermost open_rows) s piece h.there h.calm;
     }
 
-pub place_calm : (p : Place) → IsCalm (place_grown p)
-place_calm (outside piece) = calm_piece [] fresh piece (record { there = omega arith; inside = (omega arith, tt); calm = refl })
-place_calm (within before tag piece) =
-    let g = place_grown before in
-    let h = place_calm before in
+base_calm : (made : Bool) → IsCalm (base made)
+base_calm false = record { there = omega arith; inside = (omega arith, tt); calm = refl }
+base_calm true = record { there = omega arith; inside = (omega arith, (omega arith, tt)); calm = refl }
+
+pub place_calm : (made : Bool) (p : Place) → IsCalm (place_grown made p)
+place_calm made (outside piece) = calm_piece (base made).open_rows (base made).sofar piece (base_calm made)
+place_calm made (within before tag piece) =
+    let g = place_grown made before in
+    let h = place_calm made before in
     let p = innermost g.open_rows in
     let s = g.sofar in
     let n = length (flushed p s) in

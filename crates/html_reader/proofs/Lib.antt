@@ -2,6 +2,7 @@ pub mod PlaceLemmas
 pub mod RowLemmas
 pub mod WordLemmas
 pub mod FitLemmas
+pub mod FragmentLemmas
 pub mod PageLemmas
 pub mod StepLemmas
 pub mod CalmLemmas

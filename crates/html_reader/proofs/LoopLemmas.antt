@@ -1,6 +1,6 @@
 -- What is known of a page while its tokens are read one by one.
 use Rattle.std.proofs.Common.{◌≡◌, ℕ, ◌+◌, ◌*◌, ◌<◌, ◌≤◌, ◌^◌, ◌⊎◌, inl, inr, List, [], ◌∷◌, ◌++◌, length, sym, refl, ◌∙◌, ap, subst, arith, rules, Some, None, Ok, Err}
-use Rattle.std.specs.Prelude.{Result, IfErr}
+use Rattle.std.specs.Prelude.{Result, IfOk, IfErr}
 use Rattle.std.specs.Str.{IsUtf8}
 use Rattle.text_base.specs.declared.reasons.PageFault.{PageFault}
 use Rattle.doc_model.specs.Document.{Document}
@@ -17,7 +17,7 @@ use Rattle.html_reader.specs.Machine.{State}
 use Rattle.html_reader.specs.States.{tok_of, from_of, most_rows}
 use Rattle.html_reader.specs.Taking.{LeadsTo, IsLed, size, IsMemory, Takes, AllBuild, EndRefused}
 use Rattle.html_reader.specs.Keeping.{IsReadable, begin_of}
-use Rattle.html_reader.specs.Pages.{Means, Spells, BuildsPage, IsPageFault}
+use Rattle.html_reader.specs.Pages.{Means, Spells, IsMade, BuildsPage, IsPageFault}
 use Rattle.html_reader.proofs.KeepLemmas.{written_few, length-kept}
 use Rattle.html_reader.proofs.SpellLemmas.{Lies, lies, moves, spells_none, spells_push}
 use Rattle.html_reader.proofs.FaultLemmas.{tree_fault, markup_fault}
@@ -32,12 +32,13 @@ pub record IsReading (page : List ℕ) (r : Reading) (before : List ℕ) (s : St
   pub named : r.name ≡ last_name [] spelled.read
   pub directly : before ≡ r.name
   pub utf8 : IsUtf8 before
+  pub gets_root : IsMade page s.rooted.made
   pub led : LeadsTo tokens s
-  pub room : size s ≤ 1 + 4 * r.at
+  pub room : size s ≤ 2 + 4 * r.at
   pub within : r.at ≤ length page
 
-pub starts_reading : (page : List ℕ) (r : Reading) (before : List ℕ) (s : State) → r ≡ record { text = page; at = 0; name = [] } → before ≡ [] → IsUtf8 before → LeadsTo [] s → size s ≡ 1 → IsReading page r before s
-starts_reading page r before s is none utf8 led one =
+pub starts_reading : (page : List ℕ) (r : Reading) (before : List ℕ) (s : State) → r ≡ record { text = page; at = 0; name = [] } → before ≡ [] → IsUtf8 before → IsMade page s.rooted.made → LeadsTo [] s → size s ≤ 2 → IsReading page r before s
+starts_reading page r before s is none utf8 gets led one =
     let new : Reading = record { text = page; at = 0; name = [] } in
     let h : IsReading page new before s = record {
       same = refl;
@@ -46,6 +47,7 @@ starts_reading page r before s is none utf8 led one =
       named = refl;
       directly = none;
       utf8 = utf8;
+      gets_root = gets;
       led = led;
       room = omega (arith, one);
       within = omega arith;
@@ -108,8 +110,9 @@ reads_token page old new before after s next x t u h begins is means takes named
       named = sym (last_push [] h.spelled.read x);
       directly = named;
       utf8 = utf8;
+      gets_root = subst (IsMade page) (sym takes.1) h.gets_root;
       led = takes.0 h.tokens h.led;
-      room = omega (arith, takes.1, h.room, few_rows page before old.at x (tok_of t) (lies page (last_name [] h.spelled.read) old.at x b) means);
+      room = omega (arith, takes.2, h.room, few_rows page before old.at x (tok_of t) (lies page (last_name [] h.spelled.read) old.at x b) means);
       within = (moves page (last_name [] h.spelled.read) old.at x b).1;
     } in
     subst (λ (y : Reading). IsReading page y after next) (sym is) more
@@ -121,26 +124,26 @@ token_refused page r before s next x t fault h begins means from (inr refused) =
     let b = next_begins page r before s h x begins in
     let m = next_means page r before s h x (tok_of t) means in
     let at : fault.at ≡ r.at = refused.0 ∙ from ∙ begins_at page r.at x (lies page (last_name [] h.spelled.read) r.at x b) in
-    inr (subst (IsPageFault page fault.reason) (sym at) (tree_fault page r.at h.tokens h.spelled (Some (tok_of t)) fault.reason (x, b, m) (refused.1 h.tokens h.led)))
+    inr (subst (IsPageFault page fault.reason) (sym at) (tree_fault page r.at h.tokens h.spelled (Some (tok_of t)) fault.reason h.gets_root (x, b, m) (refused.1 h.tokens h.led)))
 
 -- the markup is refused
 pub lexer_refused : (page : List ℕ) (r : Reading) (before : List ℕ) (s : State) (fault : PageFault) → IsReading page r before s → StepAt r.text r.name r.at (Fails fault.reason) → fault.at ≡ r.at → IsPageFault page fault.reason fault.at
 lexer_refused page r before s fault h fails at =
     let f = subst (λ n. StepAt page n r.at (Fails fault.reason)) h.named (subst (λ p. StepAt p r.name r.at (Fails fault.reason)) h.same fails) in
-    subst (IsPageFault page fault.reason) (sym at) (markup_fault page r.at h.tokens h.spelled s fault.reason h.led f)
+    subst (IsPageFault page fault.reason) (sym at) (markup_fault page r.at h.tokens h.spelled s fault.reason h.gets_root h.led f)
 
 -- the end of the page
 at_page_end : (page : List ℕ) (r : Reading) (before : List ℕ) (s : State) → IsReading page r before s → r.at ≡ length r.text → r.at ≡ length page
 at_page_end page r before s h e = e ∙ ap length h.same
 
 pub end_builds : (page : List ℕ) (r : Reading) (before : List ℕ) (s : State) (doc : Document) → IsReading page r before s → r.at ≡ length r.text → AllBuild s doc → BuildsPage page doc
-end_builds page r before s doc h e builds = page_builds page r.at h.tokens doc h.spelled (at_page_end page r before s h e) (builds h.tokens h.led)
+end_builds page r before s doc h e builds = page_builds page r.at h.tokens doc h.gets_root h.spelled (at_page_end page r before s h e) (builds h.tokens h.led)
 
 pub end_refused : (page : List ℕ) (r : Reading) (before : List ℕ) (s : State) (fault : PageFault) → IsReading page r before s → r.at ≡ length r.text → EndRefused s (length page) fault → IsMemory fault ⊎ IsPageFault page fault.reason fault.at
 end_refused page r before s fault h e (inl memory) = inl memory
 end_refused page r before s fault h e (inr refused) =
     let at : r.at ≡ length page = at_page_end page r before s h e in
-    inr (subst (IsPageFault page fault.reason) (at ∙ sym refused.0) (tree_fault page r.at h.tokens h.spelled None fault.reason at (refused.1 h.tokens h.led)))
+    inr (subst (IsPageFault page fault.reason) (at ∙ sym refused.0) (tree_fault page r.at h.tokens h.spelled None fault.reason h.gets_root at (refused.1 h.tokens h.led)))
 
 pub no_utf8 : IsUtf8 []
 no_utf8 = search rules
@@ -148,3 +151,7 @@ no_utf8 = search rules
 pub end_refusals : {D : Type 0} (page : List ℕ) (r : Reading) (before : List ℕ) (s : State) (result : Result D PageFault) → IsReading page r before s → r.at ≡ length r.text → IfErr result (λ fault. EndRefused s (length page) fault) → IfErr result (λ fault. IsMemory fault ⊎ IsPageFault page fault.reason fault.at)
 end_refusals page r before s (Ok done) h e refused = refused
 end_refusals page r before s (Err fault) h e refused = end_refused page r before s fault h e refused
+
+pub end_answers : {D : Type 0} (doc : D → Document) (page : List ℕ) (r : Reading) (before : List ℕ) (s : State) (result : Result D PageFault) → IsReading page r before s → r.at ≡ length r.text → IfOk result (λ done. AllBuild s (doc done)) → IfOk result (λ done. BuildsPage page (doc done))
+end_answers doc page r before s (Ok done) h e builds = end_builds page r before s (doc done) h e builds
+end_answers doc page r before s (Err fault) h e builds = builds

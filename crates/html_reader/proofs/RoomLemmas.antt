@@ -1,5 +1,5 @@
 -- How far the rows and the open tags grow.
-use Rattle.std.proofs.Common.{◌≡◌, ℕ, zero, suc, ◌+◌, ◌≤◌, List, [], ◌∷◌, length, Bool, true, false, cond, Ok, Err, subst, arith, length-append, eqb, ◌&&◌}
+use Rattle.std.proofs.Common.{◌≡◌, ℕ, zero, suc, ◌+◌, ◌≤◌, List, [], ◌∷◌, length, Bool, true, false, cond, Ok, Err, sym, ap, subst, arith, length-append, eqb, ◌&&◌}
 use Rattle.std.specs.Prelude.{not}
 use Rattle.std.proofs.lemmas.List.{length-map}
 use Rattle.text_base.specs.declared.reasons.PageReason.TheVariants.{StrayEnd, SecondRoot, Deep, TextOutside}
@@ -8,6 +8,7 @@ use Rattle.html_reader.specs.Rows.{flushed, text_rows, row_of_comment, row_of_at
 use Rattle.doc_model.specs.Growing.{innermost}
 use Rattle.html_reader.specs.Machine.{State, step, opened, held, closed, is_named, is_empty, without_first}
 use Rattle.html_reader.specs.Forest.{is_white_leaf}
+use Rattle.html_reader.specs.Places.{most_open}
 use Rattle.html_reader.specs.States.{most_rows}
 use Rattle.html_reader.specs.Taking.{size}
 use Rattle.html_reader.proofs.StepLemmas.{guard_ok, same_ok}
@@ -46,10 +47,25 @@ end_room s new false h = cc
 
 pub step_room : (s : State) (t : Tok) (new : State) → step s t ≡ Ok new → size new ≤ size s + most_rows t + 1
 step_room s (starts tag) new h =
-    let free = guard_ok (is_empty s.tags && s.rooted) SecondRoot (cond (eqb (length s.tags) 512) (Err Deep) (Ok (opened s tag))) new h in
-    let room = guard_ok (eqb (length s.tags) 512) Deep (Ok (opened s tag)) new free.1 in
+    let free = guard_ok (not s.rooted.made && (is_empty s.tags && s.rooted.some)) SecondRoot (cond (eqb (length s.tags) (most_open s.rooted.made)) (Err Deep) (Ok (opened s tag))) new h in
+    let room = guard_ok (eqb (length s.tags) (most_open s.rooted.made)) Deep (Ok (opened s tag)) new free.1 in
     subst (λ n. size n ≤ size s + (2 + length tag.attrs) + 1) (same_ok (opened s tag) new room.1) (open_room s tag)
 step_room s (ends name) new h = end_room s new (is_named s.tags name) h
 step_room s (holds leaf) new h =
-    let free = guard_ok (is_empty s.tags && not (is_white_leaf leaf)) TextOutside (Ok (held s leaf)) new h in
+    let free = guard_ok (not s.rooted.made && (is_empty s.tags && not (is_white_leaf leaf))) TextOutside (Ok (held s leaf)) new h in
     subst (λ n. size n ≤ size s + 2 + 1) (same_ok (held s leaf) new free.1) (leaf_room s leaf)
+
+-- a step keeps whether the root is made
+pub step_made : (s : State) (t : Tok) (new : State) → step s t ≡ Ok new → new.rooted.made ≡ s.rooted.made
+step_made s (starts tag) new h =
+    let free = guard_ok (not s.rooted.made && (is_empty s.tags && s.rooted.some)) SecondRoot (cond (eqb (length s.tags) (most_open s.rooted.made)) (Err Deep) (Ok (opened s tag))) new h in
+    let room = guard_ok (eqb (length s.tags) (most_open s.rooted.made)) Deep (Ok (opened s tag)) new free.1 in
+    ap (λ (x : State). x.rooted.made) (sym (same_ok (opened s tag) new room.1))
+step_made s (ends name) new h = by_name (is_named s.tags name) h
+  where
+    by_name : (named : Bool) → cond named (Ok (closed s)) (Err StrayEnd) ≡ Ok new → new.rooted.made ≡ s.rooted.made
+    by_name true h = ap (λ (x : State). x.rooted.made) (sym (same_ok (closed s) new h))
+    by_name false h = cc
+step_made s (holds leaf) new h =
+    let free = guard_ok (not s.rooted.made && (is_empty s.tags && not (is_white_leaf leaf))) TextOutside (Ok (held s leaf)) new h in
+    ap (λ (x : State). x.rooted.made) (sym (same_ok (held s leaf) new free.1))

@@ -1,14 +1,15 @@
 -- The machine goes from place to place.
 use Rattle.std.proofs.Common.{◌≡◌, ℕ, ◌≤◌, ◌<◌, List, [], ◌∷◌, ◌++◌, length, Bool, true, false, ◌&&◌, cond, sym, refl, ◌∙◌, ap, subst, arith, Option, Some, None, Ok, Err, append-nil, eqb, eqb-true, inl, inr, ◌⊎◌, ltb, lt-ltb}
-use Rattle.std.specs.Prelude.{Result, not}
+use Rattle.std.specs.Prelude.{Result, not, ◌||◌}
 use Rattle.std.proofs.lemmas.Slice.Eq.{bytes_eq-Decides}
 use Rattle.text_base.specs.declared.reasons.PageReason.{PageReason}
 use Rattle.text_base.specs.declared.reasons.PageReason.TheVariants.{StrayEnd, TextOutside, SecondRoot, Deep}
 use Rattle.html_reader.specs.Tokens.{Tag, Leaf, Tok, starts, ends, holds, Mark, token, shut}
-use Rattle.html_reader.specs.Forest.{Forest, nothing, then_leaf, width, is_white_leaf}
-use Rattle.html_reader.specs.Places.{Place, outside, within, place_marks, open_tags, is_rooted, CanStart, Fits, Grown}
+use Rattle.html_reader.specs.Forest.{Forest, nothing, then_leaf, width, is_white, is_white_leaf}
+use Rattle.html_reader.specs.Places.{Place, outside, within, place_marks, open_tags, is_some, root_at, most_open, IsRootPiece, CanStart, Fits, Grown}
+use Rattle.html_reader.specs.declared.reader.Root.{Root}
 use Rattle.html_reader.specs.Words.{tokens_of, next_token, begins_shut, is_shut, IsFull}
-use Rattle.html_reader.specs.Machine.{State, state, step, opened, held, closed, closing, is_named, is_empty, after_shuts}
+use Rattle.html_reader.specs.Machine.{State, state, after_leaf, step, opened, held, closed, closing, is_named, is_empty, after_shuts}
 use Rattle.html_reader.specs.Reading.{Leads, Refuses, RefusesNext, Strays}
 use Rattle.html_reader.specs.Reached.{state_at, IsSome, IsPart, Reached}
 use Rattle.html_reader.proofs.PlaceLemmas.{append, add, lone, put, put_marks, one_place}
@@ -20,59 +21,86 @@ pub add_open : (p : Place) (f : Forest) → open_tags (add p f) ≡ open_tags p
 add_open (outside piece) f = refl
 add_open (within before tag piece) f = refl
 
-leaf_rooted : (p : Place) (leaf : Leaf) → is_rooted (add p (then_leaf leaf nothing)) ≡ is_rooted p
-leaf_rooted (outside piece) leaf = ap (ltb 0) (omega (arith, width-append piece (then_leaf leaf nothing)))
-leaf_rooted (within before tag piece) leaf = refl
+abbrev same_root : Bool → Bool → Root
+same_root made some = record { made = made; some = some }
 
-close_rooted : (p : Place) (tag : Tag) (piece : Forest) (inserted : Bool) → is_rooted (add p (lone tag piece inserted)) ≡ true
-close_rooted (outside q) tag piece inserted = lt-ltb 0 (width (append q (lone tag piece inserted))) (omega (arith, width-append q (lone tag piece inserted)))
-close_rooted (within before t q) tag piece inserted = refl
+or_true : (b : Bool) → (b || true) ≡ true
+or_true true = refl
+or_true false = refl
 
-same_state : {a b : List Tag} {r s : Bool} {g h : Grown} → a ≡ b → r ≡ s → g ≡ h → state a r g ≡ state b s h
+more_text : (w m a b : Bool) → ((not (a && (b && true)) && m) || w) ≡ ((not b && m) || ((not a && m) || w))
+more_text w m true true = refl
+more_text w m true false = refl
+more_text w true false b = sym (or_true (not b && true))
+more_text w false false true = refl
+more_text w false false false = refl
+
+leaf_rooted : (made : Bool) (p : Place) (leaf : Leaf) → root_at made (add p (then_leaf leaf nothing)) ≡ after_leaf (root_at made p) leaf
+leaf_rooted made (outside piece) leaf =
+    ap (λ (b : Bool). same_root made b) (ap (λ n. (not (is_white (append piece (then_leaf leaf nothing))) && made) || ltb 0 n) (omega (arith, width-append piece (then_leaf leaf nothing)))
+    ∙ ap (λ b. (not b && made) || ltb 0 (width piece)) (white-append piece (then_leaf leaf nothing))
+    ∙ more_text (ltb 0 (width piece)) made (is_white piece) (is_white_leaf leaf))
+leaf_rooted made (within before tag piece) leaf = ap (λ (b : Bool). same_root made b) (sym (or_true (not (is_white_leaf leaf) && made)))
+
+close_rooted : (made : Bool) (p : Place) (tag : Tag) (piece : Forest) (inserted : Bool) → root_at made (add p (lone tag piece inserted)) ≡ root_at made (within p tag piece)
+close_rooted made (outside q) tag piece inserted =
+    ap (λ (b : Bool). same_root made b) (ap (λ b. (not (is_white (append q (lone tag piece inserted))) && made) || b) (lt-ltb 0 (width (append q (lone tag piece inserted))) (omega (arith, width-append q (lone tag piece inserted)))) ∙ or_true (not (is_white (append q (lone tag piece inserted))) && made))
+close_rooted made (within before t q) tag piece inserted = refl
+
+same_state : {a b : List Tag} {r s : Root} {g h : Grown} → a ≡ b → r ≡ s → g ≡ h → state a r g ≡ state b s h
 same_state e f k = λ i. state (e i) (f i) (k i)
 
-pub leaf_state : (p : Place) (leaf : Leaf) → state_at (add p (then_leaf leaf nothing)) ≡ held (state_at p) leaf
-leaf_state p leaf = same_state (add_open p (then_leaf leaf nothing)) (leaf_rooted p leaf) (leaf_grown p leaf)
+pub leaf_state : (made : Bool) (p : Place) (leaf : Leaf) → state_at made (add p (then_leaf leaf nothing)) ≡ held (state_at made p) leaf
+leaf_state made p leaf = same_state (add_open p (then_leaf leaf nothing)) (leaf_rooted made p leaf) (leaf_grown made p leaf)
 
-pub close_state : (p : Place) (tag : Tag) (piece : Forest) (inserted : Bool) → state_at (add p (lone tag piece inserted)) ≡ closed (state_at (within p tag piece))
-close_state p tag piece inserted = same_state (add_open p (lone tag piece inserted)) (close_rooted p tag piece inserted) (close_grown p tag piece inserted)
+pub close_state : (made : Bool) (p : Place) (tag : Tag) (piece : Forest) (inserted : Bool) → state_at made (add p (lone tag piece inserted)) ≡ closed (state_at made (within p tag piece))
+close_state made p tag piece inserted = same_state (add_open p (lone tag piece inserted)) (close_rooted made p tag piece inserted) (close_grown made p tag piece inserted)
 
 -- what fits
-fits_leaf : (p : Place) (leaf : Leaf) → Fits p → (is_empty (open_tags p) && not (is_white_leaf leaf)) ≡ false → Fits (add p (then_leaf leaf nothing))
-fits_leaf (outside piece) leaf h white =
-    (white-append piece (then_leaf leaf nothing) ∙ (λ i. h.0 i && (not_not (is_white_leaf leaf) white i && true)), omega (arith, h.1, width-append piece (then_leaf leaf nothing)), omega (arith, h.2, depth-append piece (then_leaf leaf nothing)))
+root_leaf : (made : Bool) (piece : Forest) (leaf : Leaf) → IsRootPiece made piece → (not made && not (is_white_leaf leaf)) ≡ false → IsRootPiece made (append piece (then_leaf leaf nothing))
+root_leaf true piece leaf h white = tt
+root_leaf false piece leaf h white =
+    (white-append piece (then_leaf leaf nothing) ∙ (λ i. h.0 i && (not_not (is_white_leaf leaf) white i && true)), omega (arith, h.1, width-append piece (then_leaf leaf nothing)))
   where
     not_not : (b : Bool) → not b ≡ false → b ≡ true
     not_not true e = refl
     not_not false e = cc
-fits_leaf (within before tag piece) leaf h white = (h.0, h.1, omega (arith, h.2, depth-append piece (then_leaf leaf nothing)))
 
-pub open_few : (p : Place) → Fits p → length (open_tags p) ≤ 512
-open_few (outside piece) h = omega arith
-open_few (within before tag piece) h = omega (arith, h.2)
+fits_leaf : (made : Bool) (p : Place) (leaf : Leaf) → Fits made p → (not made && (is_empty (open_tags p) && not (is_white_leaf leaf))) ≡ false → Fits made (add p (then_leaf leaf nothing))
+fits_leaf made (outside piece) leaf h white = (root_leaf made piece leaf h.0 white, omega (arith, h.1, depth-append piece (then_leaf leaf nothing)))
+fits_leaf made (within before tag piece) leaf h white = (h.0, h.1, omega (arith, h.2, depth-append piece (then_leaf leaf nothing)))
 
-can_start : (p : Place) → (is_empty (open_tags p) && is_rooted p) ≡ false → CanStart p
-can_start (outside piece) h = let none : (0 < width piece → ⊥) = (λ l. true_false (lt-ltb 0 (width piece) l) h) in omega (arith, none)
+pub open_few : (made : Bool) (p : Place) → Fits made p → length (open_tags p) ≤ most_open made
+open_few made (outside piece) h = omega arith
+open_few made (within before tag piece) h = omega (arith, h.2)
+
+can_start : (made : Bool) (p : Place) → (not made && (is_empty (open_tags p) && is_some made p)) ≡ false → CanStart made p
+can_start true p h = tt
+can_start false (outside piece) h = let none : (0 < width piece → ⊥) = (λ l. true_false (lt-ltb 0 (width piece) l) (or_false (not (is_white piece)) (ltb 0 (width piece)) h)) in omega (arith, none)
   where
+    or_false : (a b : Bool) → ((a && false) || b) ≡ false → b ≡ false
+    or_false true b e = e
+    or_false false b e = e
+
     true_false : {b : Bool} → b ≡ true → b ≡ false → ⊥
     true_false h k = cc
-can_start (within before tag piece) h = tt
+can_start false (within before tag piece) h = tt
 
-fits_close : (p : Place) (tag : Tag) (piece : Forest) (inserted : Bool) → Fits (within p tag piece) → Fits (add p (lone tag piece inserted))
-fits_close (outside q) tag piece inserted h =
-    let f = h.0 in (
-      white-append q (lone tag piece inserted) ∙ (λ i. f.0 i && true),
-      omega (arith, h.1, width-append q (lone tag piece inserted)),
-      omega (arith, f.2, h.2, depth-append q (lone tag piece inserted)),
-    )
-fits_close (within before t q) tag piece inserted h = let f = h.0 in (f.0, f.1, omega (arith, f.2, h.2, depth-append q (lone tag piece inserted)))
+root_close : (made : Bool) (q : Forest) (tag : Tag) (piece : Forest) (inserted : Bool) → IsRootPiece made q → CanStart made (outside q) → IsRootPiece made (append q (lone tag piece inserted))
+root_close true q tag piece inserted h can = tt
+root_close false q tag piece inserted h can = (white-append q (lone tag piece inserted) ∙ (λ i. h.0 i && true), omega (arith, can, width-append q (lone tag piece inserted)))
+
+fits_close : (made : Bool) (p : Place) (tag : Tag) (piece : Forest) (inserted : Bool) → Fits made (within p tag piece) → Fits made (add p (lone tag piece inserted))
+fits_close made (outside q) tag piece inserted h =
+    let f = h.0 in (root_close made q tag piece inserted f.0 h.1, omega (arith, f.1, h.2, depth-append q (lone tag piece inserted)))
+fits_close made (within before t q) tag piece inserted h = let f = h.0 in (f.0, f.1, omega (arith, f.2, h.2, depth-append q (lone tag piece inserted)))
 
 -- a mark more
-pub record Goes (p : Place) (m : Mark) (s : State) : Type 0 where
+pub record Goes (made : Bool) (p : Place) (m : Mark) (s : State) : Type 0 where
   pub place : Place
   pub is : put p m ≡ Some place
-  pub fits : Fits place
-  pub state : state_at place ≡ s
+  pub fits : Fits made place
+  pub state : state_at made place ≡ s
 
 pub guard_ok : {A : Type 0} (b : Bool) (e : PageReason) (x : Result A PageReason) (y : A) → cond b (Err e) x ≡ Ok y → (b ≡ false) × (x ≡ Ok y)
 guard_ok true e x y h = cc
@@ -91,48 +119,48 @@ same_ok x y e = cc
 eq_true : (a b : ℕ) → a ≡ b → eqb a b ≡ true
 eq_true a b e = grind arith
 
-goes_end : (p : Place) (name : List ℕ) (s : State) → Fits p → (named : Bool) → is_named (open_tags p) name ≡ named → cond named (Ok (closed (state_at p))) (Err StrayEnd) ≡ Ok s → Goes p (token (ends name)) s
-goes_end (outside piece) name s fits true is h = cc
-goes_end (within before tag piece) name s fits true is h =
+goes_end : (made : Bool) (p : Place) (name : List ℕ) (s : State) → Fits made p → (named : Bool) → is_named (open_tags p) name ≡ named → cond named (Ok (closed (state_at made p))) (Err StrayEnd) ≡ Ok s → Goes made p (token (ends name)) s
+goes_end made (outside piece) name s fits true is h = cc
+goes_end made (within before tag piece) name s fits true is h =
     record {
       place = add before (lone tag piece false);
       is = ap (λ b. cond b (Some (add before (lone tag piece false))) None) is;
-      fits = fits_close before tag piece false fits;
-      state = close_state before tag piece false ∙ same_ok _ _ h;
+      fits = fits_close made before tag piece false fits;
+      state = close_state made before tag piece false ∙ same_ok _ _ h;
     }
-goes_end p name s fits false is h = cc
+goes_end made p name s fits false is h = cc
 
-pub goes : (p : Place) (t : Tok) (s : State) → Fits p → step (state_at p) t ≡ Ok s → Goes p (token t) s
-goes p (starts tag) s fits h =
+pub goes : (made : Bool) (p : Place) (t : Tok) (s : State) → Fits made p → step (state_at made p) t ≡ Ok s → Goes made p (token t) s
+goes made p (starts tag) s fits h =
     let free = guard_ok _ _ _ _ h in
     let room = guard_ok _ _ _ _ free.1 in
-    let few = open_few p fits in
-    let less : (length (open_tags p) ≡ 512 → ⊥) = (λ e. true_false (eq_true _ _ e) room.0) in
+    let few = open_few made p fits in
+    let less : (length (open_tags p) ≡ most_open made → ⊥) = (λ e. true_false (eq_true _ _ e) room.0) in
     record {
       place = within p tag nothing;
       is = refl;
-      fits = (fits, can_start p free.0, omega (arith, few, less));
+      fits = (fits, can_start made p free.0, omega (arith, few, less));
       state = same_ok _ _ room.1;
     }
   where
     true_false : {b : Bool} → b ≡ true → b ≡ false → ⊥
     true_false h k = cc
-goes p (ends name) s fits h = goes_end p name s fits _ refl h
-goes p (holds leaf) s fits h =
+goes made p (ends name) s fits h = goes_end made p name s fits _ refl h
+goes made p (holds leaf) s fits h =
     let free = guard_ok _ _ _ _ h in
-    record { place = add p (then_leaf leaf nothing); is = refl; fits = fits_leaf p leaf fits free.0; state = leaf_state p leaf ∙ same_ok _ _ free.1 }
+    record { place = add p (then_leaf leaf nothing); is = refl; fits = fits_leaf made p leaf fits free.0; state = leaf_state made p leaf ∙ same_ok _ _ free.1 }
 
-goes_shut_at : (p : Place) (next : Option Tok) → Fits p → is_shut (open_tags p) next ≡ true → Goes p shut (closed (state_at p))
-goes_shut_at (outside piece) next fits h = cc
-goes_shut_at (within before tag piece) next fits h =
-    record { place = add before (lone tag piece true); is = refl; fits = fits_close before tag piece true fits; state = close_state before tag piece true }
+goes_shut_at : (made : Bool) (p : Place) (next : Option Tok) → Fits made p → is_shut (open_tags p) next ≡ true → Goes made p shut (closed (state_at made p))
+goes_shut_at made (outside piece) next fits h = cc
+goes_shut_at made (within before tag piece) next fits h =
+    record { place = add before (lone tag piece true); is = refl; fits = fits_close made before tag piece true fits; state = close_state made before tag piece true }
 
 -- a token that is refused
 no_tags : (tags : List Tag) → is_empty tags ≡ true → tags ≡ []
 no_tags [] h = refl
 no_tags (t ∷ ts) h = cc
 
-reason_is : (tags : List Tag) (rooted : Bool) (next : Option Tok) (e d : PageReason) → e ≡ d → RefusesNext tags rooted next e → RefusesNext tags rooted next d
+reason_is : (tags : List Tag) (rooted : Root) (next : Option Tok) (e d : PageReason) → e ≡ d → RefusesNext tags rooted next e → RefusesNext tags rooted next d
 reason_is tags rooted next e d is h = subst (RefusesNext tags rooted next) is h
 
 strays : (tags : List Tag) (name : List ℕ) → is_named tags name ≡ false → Strays tags name
@@ -152,18 +180,18 @@ not_true false h = refl
 
 pub refused : (s : State) (t : Tok) (r : PageReason) → step s t ≡ Err r → RefusesNext s.tags s.rooted (Some t) r
 refused s (starts tag) r h =
-    elim (guard_err (is_empty s.tags && s.rooted) SecondRoot r (cond (eqb (length s.tags) 512) (Err Deep) (Ok (opened s tag))) h) [
-      | inl second ↦ let parts = both_true _ _ second.0 in reason_is s.tags s.rooted (Some (starts tag)) SecondRoot r second.1 (no_tags _ parts.0, parts.1)
+    elim (guard_err (not s.rooted.made && (is_empty s.tags && s.rooted.some)) SecondRoot r (cond (eqb (length s.tags) (most_open s.rooted.made)) (Err Deep) (Ok (opened s tag))) h) [
+      | inl second ↦ let parts = both_true _ _ second.0 in let two = both_true _ _ parts.1 in reason_is s.tags s.rooted (Some (starts tag)) SecondRoot r second.1 (not_true _ parts.0, no_tags _ two.0, two.1)
       | inr later ↦
-          elim (guard_err (eqb (length s.tags) 512) Deep r (Ok (opened s tag)) later) [
+          elim (guard_err (eqb (length s.tags) (most_open s.rooted.made)) Deep r (Ok (opened s tag)) later) [
             | inl deep ↦ reason_is s.tags s.rooted (Some (starts tag)) Deep r deep.1 (eqb-true _ _ deep.0)
             | inr taken ↦ cc
           ]
     ]
 refused s (ends name) r h = let parts = stray_err _ _ _ h in reason_is s.tags s.rooted (Some (ends name)) StrayEnd r parts.1 (strays s.tags name parts.0)
 refused s (holds leaf) r h =
-    elim (guard_err (is_empty s.tags && not (is_white_leaf leaf)) TextOutside r (Ok (held s leaf)) h) [
-      | inl out ↦ let parts = both_true _ _ out.0 in reason_is s.tags s.rooted (Some (holds leaf)) TextOutside r out.1 (no_tags _ parts.0, not_true _ parts.1)
+    elim (guard_err (not s.rooted.made && (is_empty s.tags && not (is_white_leaf leaf))) TextOutside r (Ok (held s leaf)) h) [
+      | inl out ↦ let parts = both_true _ _ out.0 in let two = both_true _ _ parts.1 in reason_is s.tags s.rooted (Some (holds leaf)) TextOutside r out.1 (not_true _ parts.0, no_tags _ two.0, not_true _ two.1)
       | inr taken ↦ cc
     ]
 
@@ -230,28 +258,29 @@ part_shut p after part must u v e some = by_cut (cut (place_marks u) v (place_ma
     by_cut (at_end e) = absurd (subst IsSome e some)
     by_cut (earlier front e f) = subst (λ x. is_shut (open_tags u) (next_token x after) ≡ begins_shut x) (sym e) (by_front front f)
 
-pub reach_leads : (tokens : List Tok) (next : Option Tok) (s : State) (h : Reached tokens next s) → is_shut s.tags next ≡ false → Leads tokens next h.place
+pub reach_leads : (tokens : List Tok) (next : Option Tok) (s : State) (h : Reached tokens next s) → is_shut s.tags next ≡ false → Leads s.rooted.made tokens next h.place
 reach_leads tokens next s h still =
     record { spelled = h.spelled; full = full_of h.place next h.part (ap (λ (x : State). is_shut x.tags next) h.state ∙ still); fits = h.fits }
 
 pub reach_token : (tokens : List Tok) (t : Tok) (s new : State) → Reached tokens (Some t) s → is_shut s.tags (Some t) ≡ false → step s t ≡ Ok new → (after : Option Tok) → Reached (tokens ++ t ∷ []) after new
 reach_token tokens t s new h still taken after =
     let p = h.place in
-    let went = goes p t new h.fits (ap (λ x. step x t) h.state ∙ taken) in
+    let went = goes s.rooted.made p t new h.fits (ap (λ x. step x t) h.state ∙ taken) in
+    let made : s.rooted.made ≡ new.rooted.made = ap (λ (x : State). x.rooted.made) went.state in
     let more = put_marks p went.place (token t) went.is in
     record {
       place = went.place;
       spelled = ap tokens_of more ∙ tokens_of-append (place_marks p) (token t ∷ []) ∙ ap (λ x. x ++ t ∷ []) h.spelled;
       part = subst (λ w. IsPart w after) (sym more) (part_token p t h.part (ap (λ (x : State). is_shut x.tags (Some t)) h.state ∙ still) after);
-      fits = went.fits;
-      state = went.state;
+      fits = subst (λ m. Fits m went.place) made went.fits;
+      state = ap (λ m. state_at m went.place) (sym made) ∙ went.state;
     }
 
 pub reach_shut : (tokens : List Tok) (next : Option Tok) (s : State) → Reached tokens next s → is_shut s.tags next ≡ true → Reached tokens next (closed s)
 reach_shut tokens next s h must =
     let p = h.place in
     let must' = ap (λ (x : State). is_shut x.tags next) h.state ∙ must in
-    let went = goes_shut_at p next h.fits must' in
+    let went = goes_shut_at s.rooted.made p next h.fits must' in
     let more = put_marks p went.place shut went.is in
     record {
       place = went.place;
@@ -261,7 +290,15 @@ reach_shut tokens next s h must =
       state = went.state ∙ ap closed h.state;
     }
 
-pub reach_shuts : (tokens : List Tok) (next : Option Tok) (tags : List Tag) (rooted : Bool) (g : Grown) → Reached tokens next (state tags rooted g)
+pub shuts_made : (next : Option Tok) (tags : List Tag) (rooted : Root) (g : Grown) → (after_shuts next tags rooted g).rooted.made ≡ rooted.made
+shuts_made next [] rooted g = refl
+shuts_made next (tag ∷ before) rooted g = by_test (is_shut (tag ∷ before) next) (shuts_made next before rooted (closing g))
+  where
+    by_test : (b : Bool) → (after_shuts next before rooted (closing g)).rooted.made ≡ rooted.made → (cond b (after_shuts next before rooted (closing g)) (state (tag ∷ before) rooted g)).rooted.made ≡ rooted.made
+    by_test true h = h
+    by_test false h = refl
+
+pub reach_shuts : (tokens : List Tok) (next : Option Tok) (tags : List Tag) (rooted : Root) (g : Grown) → Reached tokens next (state tags rooted g)
     → Reached tokens next (after_shuts next tags rooted g) × (is_shut (after_shuts next tags rooted g).tags next ≡ false)
 reach_shuts tokens next [] rooted g h = (h, refl)
 reach_shuts tokens next (tag ∷ before) rooted g h =
@@ -273,6 +310,6 @@ reach_shuts tokens next (tag ∷ before) rooted g h =
     by_test true is later = later (reach_shut tokens next (state (tag ∷ before) rooted g) h is)
     by_test false is later = (h, is)
 
-pub reach_refused : (tokens : List Tok) (t : Tok) (s : State) (r : PageReason) → Reached tokens (Some t) s → is_shut s.tags (Some t) ≡ false → step s t ≡ Err r → Refuses tokens (Some t) r
+pub reach_refused : (tokens : List Tok) (t : Tok) (s : State) (r : PageReason) → Reached tokens (Some t) s → is_shut s.tags (Some t) ≡ false → step s t ≡ Err r → Refuses s.rooted.made tokens (Some t) r
 reach_refused tokens t s r h still is =
-    record { place = h.place; leads = reach_leads tokens (Some t) s h still; refused = refused (state_at h.place) t r (ap (λ x. step x t) h.state ∙ is) }
+    record { place = h.place; leads = reach_leads tokens (Some t) s h still; refused = refused (state_at s.rooted.made h.place) t r (ap (λ x. step x t) h.state ∙ is) }

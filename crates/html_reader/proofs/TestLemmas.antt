@@ -23,8 +23,8 @@ empty_tags (x ∷ items) = ne_eqb (length (x ∷ items)) 0 (λ e. omega (arith, 
 pub none : (items : List StartTag) (n : ℕ) → n ≡ length items → eqb n 0 ≡ is_empty (tags_onto [] items)
 none items n e = ap (λ m. eqb m 0) e ∙ empty_tags items
 
-pub deep : (items : List StartTag) (n : ℕ) → n ≡ length items → eqb n 512 ≡ eqb (length (tags_onto [] items)) 512
-deep items n e = ap (λ m. eqb m 512) (e ∙ omega (arith, length-tags [] items))
+pub deep : (items : List StartTag) (n k m : ℕ) → n ≡ length items → k ≡ m → eqb n k ≡ eqb (length (tags_onto [] items)) m
+deep items n k m e f = ap (λ x. eqb x k) (e ∙ omega (arith, length-tags [] items)) ∙ ap (λ x. eqb (length (tags_onto [] items)) x) f
 
 pub some_named : (items : List StartTag) (name : List ℕ) → is_named (tags_onto [] items) name ≡ true → 0 < length items
 some_named [] name h = cc

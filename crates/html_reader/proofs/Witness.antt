@@ -23,7 +23,7 @@ page =
     (then_element (record { name = codes "p"; attrs = lang ∷ []; slash = false })
     (then_leaf (text (codes "a")) (then_leaf doctype (then_leaf (text (codes "b")) (then_element (plain (codes "br")) nothing true (then_leaf (text (codes "c")) nothing))))) true nothing)))
 
-its_rows : (place_grown page).sofar.rows
+its_rows : (place_grown false page).sofar.rows
     ≡ no_row ∷ row_of_comment 0 (codes "c") ∷ row_of_element 0 (codes "p") ∷ row_of_attribute 2 lang ∷ row_of_text 2 (codes "ab") ∷ row_of_element 2 (codes "br") ∷ row_of_text 2 (codes "c") ∷ []
 its_rows = refl
 

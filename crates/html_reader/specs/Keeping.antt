@@ -1,5 +1,5 @@
 -- Attributes as they are kept one by one: for the clauses of the reader's own functions.
-use Rattle.std.specs.Prelude.{◌≡◌, ℕ, ◌≤◌, Bool, List, [], ◌∷◌, ◌++◌, map, length, take, ◌≢◌}
+use Rattle.std.specs.Prelude.{◌≡◌, ℕ, ◌≤◌, Bool, true, false, List, [], ◌∷◌, ◌++◌, map, length, take, ◌≢◌}
 use Rattle.std.specs.List.{list_any}
 use Rattle.std.specs.Str.{IsUtf8, bytes_eq}
 use Rattle.html_lexer.specs.Tokens.{Tok as Lexed, start_tok, end_tok, text_tok, comment_tok, doctype_tok}
@@ -51,3 +51,10 @@ begin_of (end_tok from to name) = from
 begin_of (text_tok from to raw refs) = from
 begin_of (comment_tok from to body) = from
 begin_of (doctype_tok from to) = from
+
+abbrev pub is_start : Lexed → Bool
+is_start (start_tok from to name attrs slash) = true
+is_start (end_tok from to name) = false
+is_start (text_tok from to raw refs) = false
+is_start (comment_tok from to body) = false
+is_start (doctype_tok from to) = false

@@ -1,5 +1,5 @@
 -- The document that a page builds, and the fault for which it is refused.
-use Rattle.std.specs.Prelude.{◌≡◌, ℕ, ◌≤◌, List, [], ◌∷◌, length, Option, Some, None, ◌⊎◌}
+use Rattle.std.specs.Prelude.{◌≡◌, ℕ, ◌≤◌, Bool, List, [], ◌∷◌, length, Option, Some, None, ◌⊎◌}
 use Rattle.std.specs.Str.{str_to_ascii_lowercase}
 use Rattle.text_base.specs.declared.reasons.PageReason.{PageReason}
 use Rattle.doc_model.specs.Document.{Document}
@@ -8,9 +8,11 @@ use Rattle.html_lexer.specs.Lexing.{Begins, Lexes, LexFault}
 use Rattle.html_lexer.specs.Attributes.{Writes}
 use Rattle.html_reader.specs.Tokens.{Tok, starts, ends, holds, text, comment, doctype}
 use Rattle.html_reader.specs.Contents.{kept, content}
-use Rattle.html_reader.specs.Places.{Place, place_marks, open_tags, is_rooted}
+use Rattle.html_reader.specs.Places.{Place, place_marks, open_tags, root_at}
 use Rattle.html_reader.specs.Words.{tokens_of, IsFull}
-use Rattle.html_reader.specs.Reading.{Builds, RefusesNext}
+use Rattle.html_reader.specs.Reading.{Builds, RefusesNext, is_fragment}
+use Rattle.html_lexer.specs.Steps.{StepAt}
+use Rattle.html_lexer.specs.declared.steps.Step.TheVariants.{Fails}
 
 -- What the tree takes of a token, as the page writes it. `before` is the name of the start tag directly before it, and
 -- [] where no start tag stands there.
@@ -39,15 +41,31 @@ pub record Spells (page : List ℕ) (at : ℕ) (tokens : List Tok) : Type 0 wher
 pub record BuildsPage (page : List ℕ) (doc : Document) : Type 0 where
   pub tokens : List Tok
   pub spelled : Spells page (length page) tokens
-  pub builds : Builds tokens doc
+  pub builds : Builds (is_fragment tokens) tokens doc
+
+-- what stands behind the tokens of a page: nothing, or markup that is refused
+abbrev pub Stops : List ℕ → List ℕ → ℕ → Type 0
+Stops page before at = (at ≡ length page) ⊎ ((reason : PageReason) × StepAt page before at (Fails reason))
+
+-- all tokens of a page, or those before its markup is refused
+pub record Whole (page : List ℕ) : Type 0 where
+  pub tokens : List Tok
+  pub at : ℕ
+  pub spelled : Spells page at tokens
+  pub stops : Stops page (last_name [] spelled.read) at
+
+-- whether the page gets a root
+pub record IsMade (page : List ℕ) (made : Bool) : Type 0 where
+  pub whole : Whole page
+  pub is : is_fragment whole.tokens ≡ made
 
 -- A token, or the end of the page, is refused by the table of refusals. Before it stand these tokens with the ends
 -- that are inserted.
-pub record IsRefused (before : List Tok) (next : Option Tok) (reason : PageReason) : Type 0 where
+pub record IsRefused (made : Bool) (before : List Tok) (next : Option Tok) (reason : PageReason) : Type 0 where
   pub place : Place
   pub spelled : tokens_of (place_marks place) ≡ before
   pub full : IsFull (place_marks place) next
-  pub refused : RefusesNext (open_tags place) (is_rooted place) next reason
+  pub refused : RefusesNext (open_tags place) (root_at made place) next reason
 
 -- what begins at a place: a token, or the end of the page
 abbrev pub Comes : List ℕ → List ℕ → ℕ → Option Tok → Type 0
@@ -60,7 +78,9 @@ pub record IsTreeFault (page : List ℕ) (reason : PageReason) (at : ℕ) : Type
   pub spelled : Spells page at before
   pub next : Option Tok
   pub comes : Comes page (last_name [] spelled.read) at next
-  pub refused : IsRefused before next reason
+  pub made : Bool
+  pub gets_root : IsMade page made
+  pub refused : IsRefused made before next reason
 
 -- something is refused at the place, as markup or by the tree
 abbrev pub IsFault : List ℕ → PageReason → ℕ → Type 0

@@ -1,9 +1,11 @@
 -- What stands before a place of a page, cut at the start tags that are open there.
-use Rattle.std.specs.Prelude.{◌≡◌, ℕ, ◌+◌, ◌≤◌, List, [], ◌∷◌, ◌++◌, length, Bool, true, nat_lt}
+use Rattle.std.specs.Prelude.{◌≡◌, ℕ, ◌+◌, ◌≤◌, List, [], ◌∷◌, ◌++◌, length, Bool, true, false, nat_lt, ◌&&◌, ◌||◌, not, codes}
+use Rattle.doc_model.specs.Document.{Row, no_row}
+use Rattle.html_reader.specs.declared.reader.Root.{Root}
 use Rattle.html_reader.specs.Tokens.{Tag, Mark, token, starts}
 use Rattle.html_reader.specs.Forest.{Forest, marks, depth, width, is_white}
 use Rattle.doc_model.specs.Growing.{innermost}
-use Rattle.html_reader.specs.Rows.{Sofar, fresh, grown, flushed, entered}
+use Rattle.html_reader.specs.Rows.{Sofar, sofar, fresh, grown, flushed, entered, row_of_element}
 
 -- a balanced piece; or a place, a start tag that stays open, and a balanced piece
 pub data Place : Type 0 where
@@ -19,10 +21,19 @@ abbrev pub open_tags : Place → List Tag
 open_tags (outside piece) = []
 open_tags (within before tag piece) = tag ∷ open_tags before
 
--- a root element was read
-abbrev pub is_rooted : Place → Bool
-is_rooted (outside piece) = nat_lt 0 (width piece)
-is_rooted (within before tag piece) = true
+-- What is known of the root of a page: whether it is made, and whether there is something for it: a start tag, or for a
+-- made root a text that is not white.
+abbrev pub is_some : Bool → Place → Bool
+is_some made (outside piece) = (not (is_white piece) && made) || nat_lt 0 (width piece)
+is_some made (within before tag piece) = true
+
+abbrev pub root_at : Bool → Place → Root
+root_at made p = record { made = made; some = is_some made p }
+
+-- how many start tags may be open: 513 elements, a made root counted
+abbrev pub most_open : Bool → ℕ
+most_open true = 512
+most_open false = 513
 
 -- the rows of the open tags, the innermost first, and the rows so far
 pub record Grown : Type 0 where
@@ -39,17 +50,31 @@ inside_tag g tag =
 abbrev pub with_piece : Grown → Forest → Grown
 with_piece g piece = below g.open_rows (grown (innermost g.open_rows) g.sofar piece)
 
-abbrev pub place_grown : Place → Grown
-place_grown (outside piece) = with_piece (below [] fresh) piece
-place_grown (within before tag piece) = with_piece (inside_tag (place_grown before) tag) piece
+-- before the first token: the root node, and the root element where it is made
+abbrev pub base : Bool → Grown
+base false = below [] fresh
+base true = below (1 ∷ []) (sofar (no_row ∷ row_of_element 0 (codes "html") ∷ []) [])
+
+abbrev pub place_grown : Bool → Place → Grown
+place_grown made (outside piece) = with_piece (base made) piece
+place_grown made (within before tag piece) = with_piece (inside_tag (place_grown made before) tag) piece
+
+-- all rows, with the text that waits
+abbrev pub all_rows : Grown → List Row
+all_rows g = flushed (innermost g.open_rows) g.sofar
 
 -- a start tag is no second root
-abbrev pub CanStart : Place → Type 0
-CanStart (outside piece) = width piece ≡ 0
-CanStart (within before tag piece) = Unit {0}
+abbrev pub CanStart : Bool → Place → Type 0
+CanStart true p = Unit {0}
+CanStart false (outside piece) = width piece ≡ 0
+CanStart false (within before tag piece) = Unit {0}
 
--- No token is refused: outside the root element the texts are white space, there is one root element at most, and
--- no more than 512 elements nest.
-abbrev pub Fits : Place → Type 0
-Fits (outside piece) = (is_white piece ≡ true) × (width piece ≤ 1) × (depth piece ≤ 512)
-Fits (within before tag piece) = Fits before × CanStart before × (length (open_tags before) + 1 + depth piece ≤ 512)
+-- where no root is made, the texts outside the root element are white space, and there is one root element at most
+abbrev pub IsRootPiece : Bool → Forest → Type 0
+IsRootPiece true piece = Unit {0}
+IsRootPiece false piece = (is_white piece ≡ true) × (width piece ≤ 1)
+
+-- No token is refused, and no more elements nest than may.
+abbrev pub Fits : Bool → Place → Type 0
+Fits made (outside piece) = IsRootPiece made piece × (depth piece ≤ most_open made)
+Fits made (within before tag piece) = Fits made before × CanStart made before × (length (open_tags before) + 1 + depth piece ≤ most_open made)

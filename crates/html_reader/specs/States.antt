@@ -1,11 +1,12 @@
 -- The reader's state, as the machine's.
-use Rattle.std.specs.Prelude.{◌≡◌, ◌≢◌, ℕ, ◌+◌, ◌<◌, List, [], ◌∷◌, map, length, Bool, false, Result, Ok, Err, ◌⊎◌, Option, Some, None, ◌||◌, ◌&&◌}
+use Rattle.std.specs.Prelude.{◌≡◌, ◌≢◌, ℕ, ◌+◌, ◌<◌, List, [], ◌∷◌, map, length, Bool, true, false, Result, Ok, Err, ◌⊎◌, Option, Some, None, ◌||◌, ◌&&◌}
 use Rattle.std.specs.List.{list_any}
 use denote.Ref.{Bor}
 use Rattle.html_reader.specs.Tables.{is_foreign, is_void}
 use Rattle.text_base.specs.declared.reasons.PageReason.{PageReason}
 use Rattle.text_base.specs.declared.reasons.PageReason.TheVariants.{Memory}
 use Rattle.text_base.specs.declared.reasons.PageFault.{PageFault}
+use Rattle.html_reader.specs.declared.reader.Root.{Root}
 use Rattle.html_reader.specs.declared.token.Token.{Token}
 use Rattle.html_reader.specs.declared.token.Token.TheVariants as code
 use Rattle.html_reader.specs.declared.token.Attr as code_attr
@@ -54,12 +55,16 @@ tags_onto tags (t ∷ ts) = tags_onto (tag_of t ∷ tags) ts
 abbrev pub grown_of : Growing → List ℕ → Grown
 grown_of g waits = below g.open_rows (sofar g.rows waits)
 
-abbrev pub the_state : List StartTag → Bool → Growing → List ℕ → State
+abbrev pub the_state : List StartTag → Root → Growing → List ℕ → State
 the_state tags rooted g waits = state (tags_onto [] tags) rooted (grown_of g waits)
+
+abbrev pub made_count : Bool → ℕ
+made_count true = 1
+made_count false = 0
 
 -- what the reader keeps: rows and tags open alike, and a text may come
 pub record IsSound (s : State) : Type 0 where
-  pub level : length s.grown.open_rows ≡ length s.tags
+  pub level : length s.grown.open_rows ≡ made_count s.rooted.made + length s.tags
   pub there : innermost s.grown.open_rows < length s.grown.sofar.rows
   pub inside : Within s.grown.sofar.rows
   pub below_root : s.grown.open_rows ≢ [] → 0 < innermost s.grown.open_rows

@@ -28,13 +28,13 @@ IsMemory fault = (fault.reason ≡ Memory) × (fault.at ≡ 0)
 
 -- the token is read, or it is refused after all tokens that lead here
 abbrev pub Takes : State → Token → Result (Unit {0}) PageFault → State → Type 0
-Takes old t (Ok _) new = ((tokens : List Tok) → LeadsTo tokens old → LeadsTo (tokens ++ tok_of t ∷ []) new) × (size new ≤ size old + most_rows (tok_of t) + 1)
-Takes old t (Err fault) new = IsMemory fault ⊎ ((fault.at ≡ from_of t) × ((tokens : List Tok) → LeadsTo tokens old → Refuses tokens (Some (tok_of t)) fault.reason))
+Takes old t (Ok _) new = ((tokens : List Tok) → LeadsTo tokens old → LeadsTo (tokens ++ tok_of t ∷ []) new) × (new.rooted.made ≡ old.rooted.made) × (size new ≤ size old + most_rows (tok_of t) + 1)
+Takes old t (Err fault) new = IsMemory fault ⊎ ((fault.at ≡ from_of t) × ((tokens : List Tok) → LeadsTo tokens old → Refuses old.rooted.made tokens (Some (tok_of t)) fault.reason))
 
 -- all tokens that lead here build the document
 abbrev pub AllBuild : State → Document → Type 0
-AllBuild s doc = (tokens : List Tok) → LeadsTo tokens s → Builds tokens doc
+AllBuild s doc = (tokens : List Tok) → LeadsTo tokens s → Builds s.rooted.made tokens doc
 
 -- the end of the text is refused after all tokens that lead here
 abbrev pub EndRefused : State → ℕ → PageFault → Type 0
-EndRefused s end fault = IsMemory fault ⊎ ((fault.at ≡ end) × ((tokens : List Tok) → LeadsTo tokens s → Refuses tokens None fault.reason))
+EndRefused s end fault = IsMemory fault ⊎ ((fault.at ≡ end) × ((tokens : List Tok) → LeadsTo tokens s → Refuses s.rooted.made tokens None fault.reason))

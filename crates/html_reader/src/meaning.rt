@@ -4,7 +4,7 @@ ghost use Rattle.html_lexer.specs.Tokens.{view, name_after};
 ghost use Rattle.html_reader.specs.Contents.{takes_newline};
 ghost use Rattle.html_reader.specs.States.{tok_of, from_of, IsKept};
 ghost use Rattle.html_reader.specs.Pages.{Means};
-ghost use Rattle.html_reader.specs.Keeping.{IsReadable, begin_of};
+ghost use Rattle.html_reader.specs.Keeping.{IsReadable, begin_of, is_start};
 
 use crate::contents::{content, lower_name};
 use crate::keeping::keep_attrs;
@@ -32,6 +32,13 @@ pub fn name_after<'p>(token: Lexed<'p>) -> &'p str
         Lexed::Start { name, .. } => name,
         _ => "",
     }
+}
+
+/// Whether a token is a start tag.
+pub fn is_start(token: Lexed<'_>) -> bool
+    ensures { result ≡ is_start (view token.entry) }
+{
+    matches!(token, Lexed::Start { .. })
 }
 
 /// What the tree takes of a token. `before` is the name of the start tag directly before it, and empty where no start

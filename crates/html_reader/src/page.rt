@@ -1,10 +1,13 @@
 //! Reads a page.
-ghost use Rattle.std.specs.Prelude.{◌≡◌, ◌≤◌, ◌⊎◌, length, IfOk, IfErr};
+ghost use Rattle.std.specs.Prelude.{◌≡◌, ◌≤◌, [], ◌⊎◌, length, codes, IfOk, IfErr};
 ghost use Rattle.doc_model.specs.Growing.{fresh};
-ghost use Rattle.html_reader.specs.Taking.{IsMemory};
-ghost use Rattle.html_reader.specs.Pages.{BuildsPage, IsPageFault};
+ghost use Rattle.std.specs.Str.{str_eq_ignore_ascii_case};
+ghost use Rattle.html_reader.specs.Taking.{IsMemory, LeadsTo, size};
+ghost use Rattle.html_reader.specs.Pieces.{owned_bytes};
+ghost use Rattle.html_reader.specs.States.{the_state};
+ghost use Rattle.html_reader.specs.Pages.{BuildsPage, IsPageFault, IsMade};
 
-use crate::meaning::{name_after, token_of};
+use crate::meaning::{is_start, name_after, token_of};
 use crate::reader::Reader;
 use doc_model::Grow;
 use html_lexer::Lexer;
@@ -20,20 +23,44 @@ fn no_memory() -> PageFault
     }
 }
 
-/// The tree of a page of 4,194,304 bytes at most, or why the page is refused, and at which byte the token begins that
-/// is refused. Want of memory has the place 0.
-pub fn read_html<'p, G: Grow<'p> + Drop>(
+fn is_html(name: &str) -> bool
+    ensures { result ≡ str_eq_ignore_ascii_case name.now (codes "html") }
+{
+    name.eq_ignore_ascii_case("html")
+}
+
+/// Whether a page gets a root: its first start tag, if there is one, is not `html`.
+fn gets_root(text: &str) -> bool
+    ensures { IsMade text.now result }
+{
+    let mut lexer = Lexer::new(text);
+    loop {
+        match lexer.next() {
+            Ok(Some(token)) => {
+                if is_start(token) {
+                    return !is_html(name_after(token));
+                }
+            }
+            Ok(None) => return true,
+            Err(_) => return true,
+        }
+    }
+}
+
+/// The tree that the reader makes of the page, or why the page is refused.
+fn read_tokens<'p, G: Grow<'p> + Drop>(
     alloc: Global,
     text: &'p str,
-    grow: G,
+    mut reader: Reader<'p, G>,
 ) -> Result<G::Done, PageFault>
-    requires fresh { G.growing grow ≡ fresh }
     requires short { length text.now ≤ 4194304 }
+    requires made { IsMade text.now reader.rooted.made }
+    requires led { LeadsTo [] (the_state reader.tags.items reader.rooted (G.growing reader.grow) (owned_bytes reader.waits)) }
+    requires size { size (the_state reader.tags.items reader.rooted (G.growing reader.grow) (owned_bytes reader.waits)) ≤ 2 }
     ensures ok { IfOk result (λ done. BuildsPage text.now (G.Done.document done)) }
     ensures fault { IfErr result (λ fault. IsMemory fault ⊎ IsPageFault text.now fault.reason fault.at) }
 {
     let mut lexer = Lexer::new(text);
-    let mut reader = Reader::new(alloc, grow);
     let mut before = "";
     loop {
         match lexer.next() {
@@ -52,5 +79,23 @@ pub fn read_html<'p, G: Grow<'p> + Drop>(
             Ok(None) => return reader.finish(text.len()),
             Err(fault) => return Err(fault),
         }
+    }
+}
+
+/// The tree of a page of 4,194,304 bytes at most, or why the page is refused, and at which byte the token begins that
+/// is refused. Want of memory has the place 0.
+pub fn read_html<'p, G: Grow<'p> + Drop>(
+    alloc: Global,
+    text: &'p str,
+    grow: G,
+) -> Result<G::Done, PageFault>
+    requires fresh { G.growing grow ≡ fresh }
+    requires short { length text.now ≤ 4194304 }
+    ensures ok { IfOk result (λ done. BuildsPage text.now (G.Done.document done)) }
+    ensures fault { IfErr result (λ fault. IsMemory fault ⊎ IsPageFault text.now fault.reason fault.at) }
+{
+    match Reader::new(alloc, grow, gets_root(text)) {
+        Ok(reader) => read_tokens(alloc, text, reader),
+        Err(_) => Err(no_memory()),
     }
 }

@@ -1,11 +1,11 @@
 //! Reads tokens into a tree.
 ghost use Rattle.std.specs.Prelude.{◌≡◌, ◌+◌, ◌<◌, ◌≤◌, ◌^◌, ◌++◌, List, [], ◌∷◌, length, map, OnOk, IfOk, IfErr, ◌&&◌, ◌||◌, ◌==◌, not};
-ghost use Rattle.std.specs.Prelude.{string_bytes};
+ghost use Rattle.std.specs.Prelude.{string_bytes, true};
 ghost use Rattle.std.specs.Vec.{vec_len};
 ghost use Rattle.html_reader.specs.Rows.{row_of_attribute, row_of_element};
-ghost use Rattle.html_reader.specs.Places.{below};
+ghost use Rattle.html_reader.specs.Places.{below, base, most_open, all_rows};
 ghost use Rattle.doc_model.specs.Growing.{innermost};
-ghost use Rattle.html_reader.specs.Machine.{state, settled, held, opened, closed, shuts, is_empty, is_named};
+ghost use Rattle.html_reader.specs.Machine.{state, settled, held, opened, closed, shuts, is_empty, is_named, after_leaf};
 ghost use Rattle.html_reader.specs.Reached.{IsReached};
 ghost use Rattle.html_reader.specs.Taking.{LeadsTo, IsLed, Takes, AllBuild, EndRefused, size};
 ghost use Rattle.doc_model.specs.Growing.{fresh as root_alone};
@@ -16,7 +16,7 @@ ghost use Rattle.html_reader.specs.States.{the_state, tags_onto, grown_of, attr_
 ghost use Rattle.html_reader.specs.Forest.{is_space};
 ghost use Rattle.std.specs.List.{list_all, list_any};
 ghost use Rattle.html_reader.specs.Words.{is_shut, ends_at};
-ghost use Rattle.html_reader.specs.Tokens.{starts, comment};
+ghost use Rattle.html_reader.specs.Tokens.{starts, comment, text};
 
 use crate::owned::Owned;
 use crate::tables::start_ends;
@@ -25,14 +25,39 @@ use doc_model::{Grow, Piece};
 use std::alloc::Global;
 use text_base::{NoMemory, PageFault, PageReason};
 
+/// What is known of the root of a page: whether it is made, and whether there is something for it.
+#[derive(Clone, Copy, Debug, PartialEq, Eq)]
+pub struct Root {
+    pub made: bool,
+    pub some: bool,
+}
+
 /// Reads tokens into a tree.
 #[derive(Drop)]
 pub struct Reader<'p, G> {
     alloc: Global,
     tags: Vec<StartTag<'p>>,
-    rooted: bool,
+    rooted: Root,
     grow: G,
     waits: Owned<'p>,
+}
+
+/// How many start tags may be open.
+fn most_open(made: bool) -> usize
+    ensures { result ≡ most_open made }
+{
+    if made { 512 } else { 513 }
+}
+
+/// Begins a document, with its root where it is made.
+fn begin<'p, G: Grow<'p>>(grow: &mut G, made: bool) -> Result<(), NoMemory>
+    requires { G.growing grow.old ≡ root_alone }
+    ensures { OnOk result (grown_of (G.growing grow.new) [] ≡ base made) }
+{
+    if !made {
+        return Ok(());
+    }
+    grow.element(Piece::Page("html"))
 }
 
 /// Gives the element that was just begun its attributes.
@@ -116,6 +141,14 @@ fn tag_ends(tags: &[StartTag<'_>], tag: &StartTag<'_>, next: Option<&Token<'_>>)
 }
 
 impl<'p, G: Grow<'p> + Drop> Reader<'p, G> {
+    /// Tells whether no element is open, a made root counted.
+    #[tactic(auto, using(crate::proofs::TestLemmas::none))]
+    fn is_outermost(&self) -> bool
+        ensures { result ≡ (not self.now.rooted.made && is_empty (tags_onto [] self.now.tags.items)) }
+    {
+        !self.rooted.made && self.tags.len() == 0
+    }
+
     /// Gives the text that waits its row.
     fn flush(&mut self) -> Result<(), NoMemory>
         requires sound { IsSound (the_state self.old.tags.items self.old.rooted (G.growing self.old.grow) (owned_bytes self.old.waits)) }
@@ -124,7 +157,7 @@ impl<'p, G: Grow<'p> + Drop> Reader<'p, G> {
         ensures tags { self.new.tags ≡ self.old.tags }
         ensures rooted { self.new.rooted ≡ self.old.rooted }
     {
-        if self.tags.len() == 0 {
+        if self.is_outermost() {
             self.waits = Owned::Page("");
             return Ok(());
         }
@@ -149,7 +182,7 @@ impl<'p, G: Grow<'p> + Drop> Reader<'p, G> {
         self.grow.element(tag.name.piece())?;
         push_attrs(&mut self.grow, tag.attrs.as_slice())?;
         self.tags.push(tag)?;
-        self.rooted = true;
+        self.rooted.some = true;
         Ok(())
     }
 
@@ -168,6 +201,22 @@ impl<'p, G: Grow<'p> + Drop> Reader<'p, G> {
         Ok(())
     }
 
+    /// Closes a made root, where no other element is open.
+    fn close_root(&mut self) -> Result<(), NoMemory>
+        requires sound { IsSound (the_state self.old.tags.items self.old.rooted (G.growing self.old.grow) (owned_bytes self.old.waits)) }
+        requires none { is_empty (tags_onto [] self.old.tags.items) ≡ true }
+        requires room { length (G.growing self.old.grow).rows + 1 < 2 ^ 32 }
+        ensures open { OnOk result ((G.growing self.new.grow).open_rows ≡ []) }
+        ensures rows { OnOk result ((G.growing self.new.grow).rows ≡ all_rows (grown_of (G.growing self.old.grow) (owned_bytes self.old.waits))) }
+    {
+        if !self.rooted.made {
+            return Ok(());
+        }
+        self.flush()?;
+        self.grow.close();
+        Ok(())
+    }
+
     /// Adds a comment.
     fn comment(&mut self, content: &'p str) -> Result<(), NoMemory>
         requires sound { IsSound (the_state self.old.tags.items self.old.rooted (G.growing self.old.grow) (owned_bytes self.old.waits)) }
@@ -183,9 +232,12 @@ impl<'p, G: Grow<'p> + Drop> Reader<'p, G> {
     fn wait(&mut self, content: Owned<'p>) -> Result<(), NoMemory>
         ensures waits { OnOk result (owned_bytes self.new.waits ≡ owned_bytes self.old.waits ++ owned_bytes content.entry) }
         ensures tags { self.new.tags ≡ self.old.tags }
-        ensures rooted { self.new.rooted ≡ self.old.rooted }
+        ensures rooted { OnOk result (self.new.rooted ≡ after_leaf self.old.rooted (text (owned_bytes content.entry))) }
         ensures grow { self.new.grow ≡ self.old.grow }
     {
+        if self.rooted.made && !is_blank(content.as_str()) {
+            self.rooted.some = true;
+        }
         if self.waits.as_str().is_empty() {
             self.waits = content;
             return Ok(());
@@ -203,23 +255,23 @@ impl<'p, G: Grow<'p> + Drop> Reader<'p, G> {
 
     /// Tells whether a start tag is a second root.
     fn is_second(&self) -> bool
-        ensures { result ≡ (is_empty (tags_onto [] self.now.tags.items) && self.now.rooted) }
+        ensures { result ≡ (not self.now.rooted.made && (is_empty (tags_onto [] self.now.tags.items) && self.now.rooted.some)) }
     {
-        self.has_none() && self.rooted
+        !self.rooted.made && self.has_none() && self.rooted.some
     }
 
     #[tactic(auto, using(crate::proofs::TestLemmas::deep))]
     fn is_deep(&self) -> bool
-        ensures { result ≡ (length (tags_onto [] self.now.tags.items) == 512) }
+        ensures { result ≡ (length (tags_onto [] self.now.tags.items) == most_open self.now.rooted.made) }
     {
-        self.tags.len() == 512
+        self.tags.len() == most_open(self.rooted.made)
     }
 
     /// Tells whether a text may not stand here.
     fn is_outside(&self, content: &str) -> bool
-        ensures { result ≡ (is_empty (tags_onto [] self.now.tags.items) && not (list_all is_space content.now)) }
+        ensures { result ≡ (not self.now.rooted.made && (is_empty (tags_onto [] self.now.tags.items) && not (list_all is_space content.now))) }
     {
-        self.has_none() && !is_blank(content)
+        !self.rooted.made && self.has_none() && !is_blank(content)
     }
 
     /// Tells whether the innermost open element has the name.
@@ -306,18 +358,20 @@ impl<'p, G: Grow<'p> + Drop> Reader<'p, G> {
     }
 
     /// Before the first token.
-    pub fn new(alloc: Global, grow: G) -> Reader<'p, G>
+    pub fn new(alloc: Global, mut grow: G, made: bool) -> Result<Reader<'p, G>, NoMemory>
         requires { G.growing grow ≡ root_alone }
-        ensures led { LeadsTo [] (the_state result.tags.items result.rooted (G.growing result.grow) (owned_bytes result.waits)) }
-        ensures size { size (the_state result.tags.items result.rooted (G.growing result.grow) (owned_bytes result.waits)) ≡ 1 }
+        ensures made { IfOk result (λ r. r.rooted.made ≡ made) }
+        ensures led { IfOk result (λ r. LeadsTo [] (the_state r.tags.items r.rooted (G.growing r.grow) (owned_bytes r.waits))) }
+        ensures size { IfOk result (λ r. size (the_state r.tags.items r.rooted (G.growing r.grow) (owned_bytes r.waits)) ≤ 2) }
     {
-        Reader {
+        begin(&mut grow, made)?;
+        Ok(Reader {
             alloc,
             tags: Vec::new(alloc),
-            rooted: false,
+            rooted: Root { made, some: false },
             grow,
             waits: Owned::Page(""),
-        }
+        })
     }
 
     /// Reads the next token.
@@ -346,8 +400,11 @@ impl<'p, G: Grow<'p> + Drop> Reader<'p, G> {
         if !self.has_none() {
             return Err(fault(PageReason::Unclosed, end));
         }
-        if !self.rooted {
+        if !self.rooted.some {
             return Err(fault(PageReason::NoRoot, end));
+        }
+        if self.close_root().is_err() {
+            return Err(fault(PageReason::Memory, 0));
         }
         let Reader { grow, .. } = self;
         match grow.finish() {

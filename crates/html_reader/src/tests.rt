@@ -60,43 +60,58 @@ const SHOP_ROWS: &str =
 
 #[test]
 fn builds_trees(rt: HostRuntime) -> Result<(), Fail> {
-    let pages: [(&str, &str); 13] = [
-        ("<ul><li>a<li>b</ul>", "0<ul 1<li 2\"a 1<li 4\"b "),
+    let pages: [(&str, &str); 22] = [
+        ("<ul><li>a<li>b</ul>", "0<html 1<ul 2<li 3\"a 2<li 5\"b "),
         (
             "<table><tr><td>1<td>2<tr><td>3</table>",
-            "0<table 1<tr 2<td 3\"1 2<td 5\"2 1<tr 7<td 8\"3 ",
+            "0<html 1<table 2<tr 3<td 4\"1 3<td 6\"2 2<tr 8<td 9\"3 ",
         ),
         (
             "<select><optgroup><option>a<option>b<optgroup><option>c</select>",
-            "0<select 1<optgroup 2<option 3\"a 2<option 5\"b 1<optgroup 7<option 8\"c ",
+            "0<html 1<select 2<optgroup 3<option 4\"a 3<option 6\"b 2<optgroup 8<option 9\"c ",
         ),
         (
             "<dl><dt>a<dd>b<dt>c</dl>",
-            "0<dl 1<dt 2\"a 1<dd 4\"b 1<dt 6\"c ",
+            "0<html 1<dl 2<dt 3\"a 2<dd 5\"b 2<dt 7\"c ",
         ),
         (
             "<ruby>a<rt>b<rp>c</ruby>",
-            "0<ruby 1\"a 1<rt 3\"b 1<rp 5\"c ",
+            "0<html 1<ruby 2\"a 2<rt 4\"b 2<rp 6\"c ",
         ),
-        ("<svg><pre/>\nx</svg>", "0<svg 1<pre 1\"x "),
-        ("<PRE>\n\nx</pre>", "0<pre 1\"\nx "),
-        ("<p>a<!doctype x>b</p>", "0<p 1\"ab "),
+        ("<svg><pre/>\nx</svg>", "0<html 1<svg 2<pre 2\"x "),
+        ("<PRE>\n\nx</pre>", "0<html 1<pre 2\"\nx "),
+        ("<p>a<!doctype x>b</p>", "0<html 1<p 2\"ab "),
         (
             "<p>a<!--c-->b<br></p>\n<!--d-->",
-            "0<p 1\"a 1!c 1\"b 1<br 0!d ",
+            "0<html 1<p 2\"a 2!c 2\"b 2<br 1\"\n 1!d ",
         ),
         (
             "<p ID=a Title='&lt;b' id=b>&euro;</p>",
-            "0<p 1@id=a 1@title=<b 1\"\u{20ac} ",
+            "0<html 1<p 2@id=a 2@title=<b 2\"\u{20ac} ",
         ),
         (
             "<p a b c d e f g h i j k l m n o p q r s t B=2 T=5 u=6>x</p>",
-            "0<p 1@a= 1@b= 1@c= 1@d= 1@e= 1@f= 1@g= 1@h= 1@i= 1@j= 1@k= 1@l= 1@m= 1@n= 1@o= 1@p= 1@q= 1@r= 1@s= 1@t= 1@u=6 1\"x ",
+            "0<html 1<p 2@a= 2@b= 2@c= 2@d= 2@e= 2@f= 2@g= 2@h= 2@i= 2@j= 2@k= 2@l= 2@m= 2@n= 2@o= 2@p= 2@q= 2@r= 2@s= 2@t= 2@u=6 2\"x ",
         ),
         (
             "<html><head><title></title><p>a",
             "0<html 1<head 2<title 1<p 4\"a ",
         ),
+        ("a<p>b</p><p>c", "0<html 1\"a 1<p 3\"b 1<p 5\"c "),
+        ("<p>a</p><p>b</p>", "0<html 1<p 2\"a 1<p 4\"b "),
+        ("x<p>", "0<html 1\"x 1<p "),
+        (
+            "<head><title></title><p>a",
+            "0<html 1<head 2<title 1<p 4\"a ",
+        ),
+        ("<p>a</p>b<!doctype x>c", "0<html 1<p 2\"a 1\"bc "),
+        ("<!--c-->\n<b></b>", "0<html 1!c 1\"\n 1<b "),
+        (
+            " <!doctype html> <HTML><p>x</HTML> <!--c--> ",
+            "0<html 1<p 2\"x 0!c ",
+        ),
+        (".", "0<html 1\". "),
+        ("&nbsp;", "0<html 1\"\u{a0} "),
         (SHOP, SHOP_ROWS),
     ];
     for (page, want) in pages {
@@ -113,16 +128,18 @@ fn builds_trees(rt: HostRuntime) -> Result<(), Fail> {
 
 #[test]
 fn refuses_pages(rt: HostRuntime) -> Result<(), Fail> {
-    let pages: [(&str, PageReason, usize); 12] = [
+    let pages: [(&str, PageReason, usize); 14] = [
         ("", PageReason::NoRoot, 0),
         ("<p><a hre", PageReason::BadTag, 3),
         ("<p =\"x\">", PageReason::BadAttribute, 0),
         ("<p><!-- x", PageReason::BadComment, 3),
         ("<p><![CDATA[x]]></p>", PageReason::BadMarkup, 3),
         ("<div>", PageReason::Unclosed, 5),
-        ("x<p>", PageReason::TextOutside, 0),
-        ("<p>a</p><p>b</p>", PageReason::SecondRoot, 8),
-        ("<head><title></title><p>a", PageReason::SecondRoot, 21),
+        (" <!--x--> ", PageReason::NoRoot, 10),
+        ("x<html>", PageReason::TextOutside, 0),
+        ("<html></html>x", PageReason::TextOutside, 13),
+        ("<html></html><p>", PageReason::SecondRoot, 13),
+        ("<p>x</p></html>", PageReason::StrayEnd, 8),
         ("<p>a<b>c</p>", PageReason::StrayEnd, 8),
         ("<p>a</p></p>", PageReason::StrayEnd, 8),
         ("<p>a</p></p><a hre", PageReason::StrayEnd, 8),
@@ -151,7 +168,7 @@ fn nested(alloc: Global, depth: usize) -> Result<String, NoMemory> {
 fn nests(rt: HostRuntime) -> Result<(), Fail> {
     let page = nested(rt.alloc(), 512).expect(&rt, "memory");
     match read(rt.alloc(), page.as_str()) {
-        Ok(tree) => assert_eq!(rt; tree.len(), 513),
+        Ok(tree) => assert_eq!(rt; tree.len(), 514),
         Err(fault) => assert!(rt; false, "refused at {}", fault.at),
     }
     let page = nested(rt.alloc(), 513).expect(&rt, "memory");

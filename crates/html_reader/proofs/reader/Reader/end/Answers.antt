@@ -5,7 +5,7 @@ use Rattle.html_reader.proofs.AttrLemmas.{ends_pop, stays_open}
 use Rattle.html_reader.proofs.reader.Reader.end.Goals as goal
 
 pub close-requires : goal.close-requires
-close-requires g c κs = ((refl, tt), stays_open (g.G.Grow.growing c.args.self.now.grow) (g.G.Grow.growing c.flush.new.self.grow) (owned_bytes c.args.self.now.waits) (owned_bytes c.flush.new.self.waits) c.args.self.now.tags.items c.in_ok-flush.ensures.grown c.requires.sound.level (omega (arith, c.requires.some)))
+close-requires g c κs = ((refl, tt), stays_open (g.G.Grow.growing c.args.self.now.grow) (g.G.Grow.growing c.flush.new.self.grow) (owned_bytes c.args.self.now.waits) (owned_bytes c.flush.new.self.waits) c.args.self.now.tags.items _ c.in_ok-flush.ensures.grown c.requires.sound.level (omega (arith, c.requires.some)))
 
 pub returns : goal.returns
 returns g c =

@@ -1,9 +1,11 @@
-use Rattle.std.proofs.Common.{◌≡◌, [], false, rules}
+use Rattle.std.proofs.Common.{◌≡◌, [], false, rules, ap}
 use Rattle.html_reader.specs.States.{the_state}
+use Rattle.html_reader.specs.Machine.{state}
+use Rattle.html_reader.specs.States.{tags_onto}
 use Rattle.html_reader.proofs.ReadLemmas.{starts_led}
 use Rattle.html_reader.proofs.reader.Reader.new.Goals as goal
 
 pub returns-clause-led : goal.returns-clause-led
 returns-clause-led g c =
     let none : (c.new.result.items ≡ []) = search rules in
-    starts_led (the_state c.new.result.items false (g.G.Grow.growing c.args.grow) []) (λ i. the_state (none i) false (c.requires i) [])
+    starts_led c.args.made (the_state c.new.result.items (record { made = c.args.made; some = false }) (g.G.Grow.growing c.begin.new.grow) []) (λ i. state (tags_onto [] (none i)) (record { made = c.args.made; some = false }) (c.in_ok-begin.ensures i))

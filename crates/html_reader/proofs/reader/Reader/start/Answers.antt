@@ -1,8 +1,10 @@
-use Rattle.std.proofs.Common.{rules, refl, arith, length, map, sym, subst, ap, ◌+◌, ◌≤◌, length-append, ◌≡◌, ◌++◌, [], ◌∷◌}
+use Rattle.std.proofs.Common.{rules, refl, arith, length, map, sym, subst, ap, ◌+◌, ◌≤◌, length-append, ◌∙◌, ◌≡◌, ◌++◌, [], ◌∷◌}
 use Rattle.doc_model.specs.Pieces.{piece_text}
 use Rattle.doc_model.specs.Growing.{Growing, innermost, element_row}
 use Rattle.html_reader.specs.Kept.{AreKept}
-use Rattle.html_reader.specs.States.{attr_of}
+use Rattle.html_reader.specs.States.{attr_of, the_state}
+use Rattle.html_reader.specs.Machine.{with_some}
+use Rattle.html_reader.specs.declared.reader.Root.{Root}
 use Rattle.html_reader.specs.Pieces.{owned_bytes}
 use Rattle.html_reader.proofs.AttrLemmas.{starts_tag, settled_room, ends_in}
 use Rattle.html_reader.proofs.reader.Reader.start.Goals as goal
@@ -36,6 +38,7 @@ push_attrs-requires g c κs =
 pub returns : goal.returns
 returns g c =
     let pushed : (c.push.new.self.items ≡ c.args.self.now.tags.items ++ c.args.tag ∷ []) = search rules in
-    starts_tag (g.G.Grow.growing c.args.self.now.grow) (g.G.Grow.growing c.flush.new.self.grow) (g.G.Grow.growing c.element.new.self) (g.G.Grow.growing c.push_attrs.new.grow)
+    ap (λ (r : Root). the_state c.push.new.self.items (with_some r) (g.G.Grow.growing c.push_attrs.new.grow) (owned_bytes c.flush.new.self.waits)) c.flush.ensures.rooted
+    ∙ starts_tag (g.G.Grow.growing c.args.self.now.grow) (g.G.Grow.growing c.flush.new.self.grow) (g.G.Grow.growing c.element.new.self) (g.G.Grow.growing c.push_attrs.new.grow)
     (owned_bytes c.args.self.now.waits) (owned_bytes c.flush.new.self.waits) c.args.self.now.tags.items c.push.new.self.items c.args.self.now.rooted c.args.tag
     c.in_ok-flush.ensures.grown _ c.piece.ensures.text c.in_ok-element.ensures.ok _ c.as_slice.ensures.value c.in_ok-push_attrs.ensures pushed

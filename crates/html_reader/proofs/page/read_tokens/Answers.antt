@@ -5,12 +5,12 @@ use Rattle.html_lexer.specs.Lexing.{GivesToken, IsNext}
 use Rattle.html_lexer.specs.declared.lexer.Token.{Token}
 use Rattle.html_reader.specs.Pieces.{owned_bytes}
 use Rattle.html_reader.specs.States.{the_state, tok_of}
-use Rattle.html_reader.proofs.LoopLemmas.{starts_reading, no_utf8, led_of, has_room, reads_token, token_refused, lexer_refused, end_refusals, is_readable}
-use Rattle.html_reader.proofs.page.read_html.Goals as goal
+use Rattle.html_reader.proofs.LoopLemmas.{starts_reading, no_utf8, led_of, has_room, reads_token, token_refused, lexer_refused, end_refusals, end_answers, is_readable}
+use Rattle.html_reader.proofs.page.read_tokens.Goals as goal
 
 pub loop-token-init : goal.loop-token-init
 loop-token-init g c =
-    starts_reading c.args.text.now c.new-lexer.result [] (the_state c.new-reader.result.tags.items c.new-reader.result.rooted (g.G.Grow.growing c.new-reader.result.grow) (owned_bytes c.new-reader.result.waits)) c.new-lexer.ensures refl no_utf8 c.new-reader.ensures.led c.new-reader.ensures.size
+    starts_reading c.args.text.now c.new-lexer.result [] (the_state c.args.reader.tags.items c.args.reader.rooted (g.G.Grow.growing c.args.reader.grow) (owned_bytes c.args.reader.waits)) c.new-lexer.ensures refl no_utf8 c.requires.made c.requires.led c.requires.size
 
 pub token_of-requires-text-before : goal.token_of-requires-text-before
 token_of-requires-text-before g c κs = c.loop-token.invariant.utf8
@@ -66,3 +66,11 @@ returns-in-Err-clause-fault g c =
     let r = c.loop-token.reader in
     let given = c.in-Err.ensures.next in
     inr (lexer_refused c.args.text.now c.loop-token.lexer c.loop-token.before.now (the_state r.tags.items r.rooted (g.G.Grow.growing r.grow) (owned_bytes r.waits)) c.in-Err.fault c.loop-token.invariant given.0 given.1)
+
+pub returns-in-Ok-None-clause-ok : goal.returns-in-Ok-None-clause-ok
+returns-in-Ok-None-clause-ok g c =
+    let r = c.loop-token.reader in
+    let state = the_state r.tags.items r.rooted (g.G.Grow.growing r.grow) (owned_bytes r.waits) in
+    let ended : IsNext c.loop-token.lexer (Ok None) c.next.new.self =
+    subst (λ (o : Option Token). IsNext c.loop-token.lexer (Ok o) c.next.new.self) c.in-Ok-None.field-0-is c.in-Ok-None.ensures.next in
+    end_answers (λ done. g.G.Done.Tree.document done) c.args.text.now c.loop-token.lexer c.loop-token.before.now state c.finish.result c.loop-token.invariant ended.0 c.finish.ensures.ok

@@ -2,7 +2,7 @@ use Rattle.std.specs.Prelude.{◌-◌, length}
 use Rattle.html_reader.specs.Pieces.{owned_bytes}
 use Rattle.html_reader.specs.States.{the_state}
 use Rattle.html_reader.proofs.LoopLemmas.{IsReading}
-use Rattle.html_reader.proofs.page.read_html.Given as goal
+use Rattle.html_reader.proofs.page.read_tokens.Given as goal
 
 abbrev pub invariant-loop-token : goal.invariant-loop-token
 invariant-loop-token g l = IsReading l.text l.lexer l.before (the_state l.reader.tags.items l.reader.rooted (g.G.Grow.growing l.reader.grow) (owned_bytes l.reader.waits))
