@@ -9,7 +9,7 @@ use Rattle.text_base.proofs.Runs.{run_end_from, run_end_le, run_end_passes, run_
 use Rattle.char_refs.specs.References.{reference_of, first_piece, more_bytes, decoded_past}
 use Rattle.char_refs.proofs.ReferenceLemmas.{no_sign}
 
-skip : (s : List ℕ) (n : ℕ) → decoded_past s n ≡ decoded_past (drop n s) 0
+pub skip : (s : List ℕ) (n : ℕ) → decoded_past s n ≡ decoded_past (drop n s) 0
 skip [] zero = refl
 skip [] (suc n) = refl
 skip (b ∷ s) zero = refl

@@ -1,3 +1,6 @@
+pub mod BackLemmas
+pub mod CutLemmas
+pub mod AttrCutLemmas
 pub mod LexLemmas
 pub mod PlainLemmas
 pub mod RawLemmas

@@ -17,7 +17,7 @@ use Rattle.html_lexer.specs.Tags.{quoted, valued, named, attr_at, TagReads}
 use Rattle.html_lexer.specs.Attributes.{Writes, IsLast, pair_at}
 
 -- which side of a choice gave this
-cond_is : (b : Bool) (x y z : AttrStep) → cond b x y ≡ z → ((b ≡ true) × (x ≡ z)) ⊎ ((b ≡ false) × (y ≡ z))
+pub cond_is : (b : Bool) (x y z : AttrStep) → cond b x y ≡ z → ((b ≡ true) × (x ≡ z)) ⊎ ((b ≡ false) × (y ≡ z))
 cond_is true x y z h = inl (refl, h)
 cond_is false x y z h = inr (refl, h)
 
@@ -29,19 +29,19 @@ pub if_false : (b : Bool) (x y z : AttrStep) → b ≡ false → y ≡ z → con
 if_false true x y z h e = cc
 if_false false x y z h e = e
 
-same_attribute : (a b : Attribute) → Reads a ≡ Reads b → a ≡ b
+pub same_attribute : (a b : Attribute) → Reads a ≡ Reads b → a ≡ b
 same_attribute a b e = cc
 
-refuses_reads : (r : PageReason) (a : Attribute) → Refuses r ≡ Reads a → ⊥
+pub refuses_reads : (r : PageReason) (a : Attribute) → Refuses r ≡ Reads a → ⊥
 refuses_reads r a e = cc
 
-closes_reads : (i j : ℕ) (s : Bool) (a : Attribute) → Closes i j s ≡ Reads a → ⊥
+pub closes_reads : (i j : ℕ) (s : Bool) (a : Attribute) → Closes i j s ≡ Reads a → ⊥
 closes_reads i j s a e = cc
 
-reads_closes : (i j : ℕ) (s : Bool) (a : Attribute) → Reads a ≡ Closes i j s → ⊥
+pub reads_closes : (i j : ℕ) (s : Bool) (a : Attribute) → Reads a ≡ Closes i j s → ⊥
 reads_closes i j s a e = cc
 
-refuses_closes : (r : PageReason) (i j : ℕ) (s : Bool) → Refuses r ≡ Closes i j s → ⊥
+pub refuses_closes : (r : PageReason) (i j : ℕ) (s : Bool) → Refuses r ≡ Closes i j s → ⊥
 refuses_closes r i j s e = cc
 
 pub both_true : (a b : Bool) → (a && b) ≡ true → (a ≡ true) × (b ≡ true)
@@ -54,7 +54,7 @@ true_false b h k = cc
 pub ltb_lt : (a b : ℕ) → ltb a b ≡ true → a < b
 ltb_lt a b h = grind (arith, nat_tests)
 
-leb_lt : (a b : ℕ) → leb a b ≡ false → b < a
+pub leb_lt : (a b : ℕ) → leb a b ≡ false → b < a
 leb_lt a b h = grind (arith, nat_tests)
 
 pub lt_ltb : (a b : ℕ) → a < b → ltb a b ≡ true
@@ -114,7 +114,7 @@ module _ (text : List ℕ) where
   abbrev pub reading : ℕ → AttrStep
   reading k = cond (is_attr_byte (get_or text k 0)) (named text k) (Refuses BadAttribute)
 
-  found : (i : ℕ) (a : Attribute) → attr_at text i ≡ Reads a → ((get_or text (run_end is_gap text i) 0 == 62) ≡ false) × (run_end is_gap text i < length text) × (is_attr_byte (get_or text (run_end is_gap text i) 0) ≡ true) × (named text (run_end is_gap text i) ≡ Reads a)
+  pub found : (i : ℕ) (a : Attribute) → attr_at text i ≡ Reads a → ((get_or text (run_end is_gap text i) 0 == 62) ≡ false) × (run_end is_gap text i < length text) × (is_attr_byte (get_or text (run_end is_gap text i) 0) ≡ true) × (named text (run_end is_gap text i) ≡ Reads a)
   found i a h =
       let k = run_end is_gap text i in
       elim (cond_is (get_or text k 0 == 62) (closing i k) (cond (leb (length text) k) (Refuses BadTag) (reading k)) (Reads a) h) [
@@ -147,7 +147,7 @@ module _ (text : List ℕ) where
             | inr p ↦ refuses_closes BadTag i j s p.1
           ]
 
-  named_closes : (k i j : ℕ) (s : Bool) → named text k ≡ Closes i j s → ⊥
+  pub named_closes : (k i j : ℕ) (s : Bool) → named text k ≡ Closes i j s → ⊥
   named_closes k i j s h =
       let n = run_end is_attr_byte text k in
       elim (cond_is (get_or text (sign k) 0 == 61) (valued text k n (run_end is_space5 text (sign k + 1))) (Reads (alone k n)) (Closes i j s) h) [
@@ -159,7 +159,7 @@ module _ (text : List ℕ) where
   abbrev ClosesAt : ℕ → ℕ → Type 0
   ClosesAt i m = (i ≤ m) × (m ≤ run_end is_gap text i) × ((get_or text m 0 ≡ 62) ⊎ (get_or text m 0 ≡ 47))
 
-  closes_at : (i m to : ℕ) (slash : Bool) → attr_at text i ≡ Closes m to slash → ClosesAt i m
+  pub closes_at : (i m to : ℕ) (slash : Bool) → attr_at text i ≡ Closes m to slash → ClosesAt i m
   closes_at i m to slash h =
       let k = run_end is_gap text i in
       let from = run_end_from is_gap text i in
@@ -183,7 +183,7 @@ module _ (text : List ℕ) where
       same_place i m j to s slash e = cc
 
   -- the attributes stand before the place where the tag closes
-  reads_before : (attributes : List Attribute) (i m to : ℕ) (slash : Bool) → TagReads text i attributes (Closes m to slash) → (i ≤ m) × ((get_or text m 0 ≡ 62) ⊎ (get_or text m 0 ≡ 47))
+  pub reads_before : (attributes : List Attribute) (i m to : ℕ) (slash : Bool) → TagReads text i attributes (Closes m to slash) → (i ≤ m) × ((get_or text m 0 ≡ 62) ⊎ (get_or text m 0 ≡ 47))
   reads_before [] i m to slash h = let at = closes_at i m to slash h in (at.0, at.2)
   reads_before (a ∷ attributes) i m to slash h =
       let later = reads_before attributes a.to m to slash h.1 in (omega (arith, attr_from i a h.0, later.0), later.1)

@@ -51,7 +51,7 @@ pub record IsBody (text : List ℕ) (p e : ℕ) (t : TokenAt) : Type 0 where
   pub no_bang : has_bang_end (slice_range text p e) ≡ false
 
 module _ (text : List ℕ) where
-  start_gives : (i n : ℕ) (t : TokenAt) → StartAt text i n (Gives t) → (m to : ℕ) × (slash : Bool) × (t ≡ Start n m to slash)
+  pub start_gives : (i n : ℕ) (t : TokenAt) → StartAt text i n (Gives t) → (m to : ℕ) × (slash : Bool) × (t ≡ Start n m to slash)
   start_gives i n t h =
       elim (side (is_gap (get_or text n 0) || (get_or text n 0 == 62)) ((out : AttrStep) × TagComesTo text n out × (Gives t ≡ start_of (slice_range text (i + 1) n) n out)) (Gives t ≡ Fails BadTag) h) [
         | inl p ↦ closed (slice_range text (i + 1) n) p.1.0 p.1.2
@@ -70,7 +70,7 @@ module _ (text : List ℕ) where
           ]
       closed name (Refuses reason) e = cc
 
-  end_gives : (i : ℕ) (t : TokenAt) → end_tag_at text i ≡ Gives t → (n to : ℕ) × (t ≡ End n to)
+  pub end_gives : (i : ℕ) (t : TokenAt) → end_tag_at text i ≡ Gives t → (n to : ℕ) × (t ≡ End n to)
   end_gives i t h =
       let n = run_end is_name_byte text (i + 2) in
       let m = run_end is_space5 text n in
@@ -146,7 +146,7 @@ module _ (text : List ℕ) where
     asks : get_or text i 0 ≡ 60 → get_or text (i + 1) 0 ≡ 63 → ltb (bracket text (i + 1)) (length text) ≡ true → t ≡ Comment (i + 1) (bracket text (i + 1)) (bracket text (i + 1) + 1) → Other i t
     reads : (get_or text i 0 ≡ 60 → get_or text (i + 1) 0 ≡ 47 → ⊥) → (get_or text i 0 ≡ 60 → get_or text (i + 1) 0 ≡ 33 → ⊥) → (get_or text i 0 ≡ 60 → get_or text (i + 1) 0 ≡ 63 → ⊥) → t ≡ Text (find_where opens text i) true → Other i t
 
-  other_gives : (i : ℕ) (t : TokenAt) → other_at text i ≡ Gives t → Other i t
+  pub other_gives : (i : ℕ) (t : TokenAt) → other_at text i ≡ Gives t → Other i t
   other_gives i t h =
       elim (choice ((get_or text i 0 == 60) && (get_or text (i + 1) 0 == 47)) (end_tag_at text i) after_end (Gives t) h) [
         | inl p ↦ (let e = end_gives i t p.1 in ends e.0 e.1 e.2)
@@ -273,7 +273,7 @@ module _ (text : List ℕ) where
         closes_at name text k (omega arith)
         ∙ both (bracket_at k && slash_at k && has_letters text (k + 2) name) (ended_at k) true three (after_name (after k) h.3)
 
-    closes_end : (k : ℕ) → k ≤ length text → closes name (drop k text) ≡ true → EndTagBegins name text k
+    pub closes_end : (k : ℕ) → k ≤ length text → closes name (drop k text) ≡ true → EndTagBegins name text k
     closes_end k l h =
         let a = both_true (bracket_at k && slash_at k && has_letters text (k + 2) name) (ended_at k) (sym (closes_at name text k l) ∙ h) in
         let b = both_true (bracket_at k && slash_at k) (has_letters text (k + 2) name) a.0 in

@@ -35,17 +35,17 @@ over p xs y c all fails =
     (λ k h. ap p (get_or-append xs (c ∷ y) 0 k h) ∙ all k 0 h)
     (λ h. ap p (get_or-append_seam xs c y 0) ∙ fails)
 
-run_is : (p : ℕ → Bool) (text : List ℕ) (i j : ℕ) (xs : List ℕ) (c : ℕ) (y : List ℕ) → j ≡ i + length xs → drop i text ≡ xs ++ c ∷ y → AllPass p xs → p c ≡ false → run_end p text i ≡ j
+pub run_is : (p : ℕ → Bool) (text : List ℕ) (i j : ℕ) (xs : List ℕ) (c : ℕ) (y : List ℕ) → j ≡ i + length xs → drop i text ≡ xs ++ c ∷ y → AllPass p xs → p c ≡ false → run_end p text i ≡ j
 run_is p text i j xs c y at h all fails = let e : prefix_len p (drop i text) ≡ length xs = ap (prefix_len p) h ∙ over p xs y c all fails in omega arith
 
 none : (p : ℕ → Bool) → AllPass p []
 none p k d l = absurd (omega arith)
 
 -- a run of no bytes
-run_here : (p : ℕ → Bool) (text : List ℕ) (i c : ℕ) (y : List ℕ) → drop i text ≡ c ∷ y → p c ≡ false → run_end p text i ≡ i
+pub run_here : (p : ℕ → Bool) (text : List ℕ) (i c : ℕ) (y : List ℕ) → drop i text ≡ c ∷ y → p c ≡ false → run_end p text i ≡ i
 run_here p text i c y h fails = run_is p text i i [] c y (omega arith) h (none p) fails
 
-below : (text : List ℕ) (i c : ℕ) (y : List ℕ) → drop i text ≡ c ∷ y → i < length text
+pub below : (text : List ℕ) (i c : ℕ) (y : List ℕ) → drop i text ≡ c ∷ y → i < length text
 below text i c y h = omega (arith, ap length h, length-drop i text)
 
 one_space : AllPass is_gap (codes " ")
@@ -219,7 +219,7 @@ module _ (text name : List ℕ) (ps : List (List ℕ × List ℕ)) (i n m : ℕ)
   same_attrs : slice_range text n m ≡ written ps
   same_attrs = rest_slice text n m (written ps) (62 ∷ y) at_m later
 
-  tag_begins : (previous : List ℕ) → is_raw previous ≡ false → Begins text previous i (start_tok i (m + 1) name (written ps) false)
+  pub tag_begins : (previous : List ℕ) → is_raw previous ≡ false → Begins text previous i (start_tok i (m + 1) name (written ps) false)
   tag_begins previous not_raw =
       (Start n m (m + 1) false, tag_step previous not_raw, ap (λ z. start_tok i (m + 1) z (written ps) false) (sym same_name) ∙ ap (λ z. start_tok i (m + 1) (slice_range text (i + 1) n) z false) (sym same_attrs))
 

@@ -1,6 +1,6 @@
 -- The attributes of a start tag, and the text that waits, as the reader makes their rows.
 use Rattle.std.proofs.lemmas.Bool.{or_left, or_right, eq-eqb}
-use Rattle.std.proofs.Common.{IsTrue, ◌||◌, ◌&&◌, eqb, ◌≡◌, ℕ, zero, suc, ◌+◌, ◌≤◌, ◌<◌, List, [], ◌∷◌, ◌++◌, map, length, take, get_or, Bool, true, false, sym, refl, ◌∙◌, ap, subst, arith, append_assoc, append-nil, length-append, length-take}
+use Rattle.std.proofs.Common.{IsTrue, ◌||◌, ◌&&◌, eqb, ◌≡◌, ℕ, zero, suc, ◌+◌, ◌≤◌, ◌<◌, List, [], ◌∷◌, ◌++◌, map, length, take, get_or, false, sym, refl, ◌∙◌, ap, subst, arith, append_assoc, append-nil, length-append, length-take}
 use Rattle.std.proofs.Common.{◌-◌, Option, Some, None, option_to_list, IsSome, ◌↔◌}
 use Rattle.html_reader.specs.Parents.{Small, Within}
 use Rattle.html_reader.proofs.CalmLemmas.{within_flushed}
@@ -13,7 +13,7 @@ use Rattle.html_reader.specs.Tokens.{Attr, Tag, comment}
 use Rattle.html_reader.specs.Rows.{sofar, flushed, text_rows, row_of_text, row_of_element, row_of_attribute, row_of_comment, tag_rows}
 use Rattle.html_reader.specs.Places.{Grown, below}
 use Rattle.doc_model.specs.Growing.{innermost}
-use Rattle.html_reader.specs.Machine.{held, settled, state, with_some, after_leaf, opened, closed, without_first}
+use Rattle.html_reader.specs.Machine.{held, settled, state, with_some, opened, closed, without_first}
 use Rattle.html_reader.specs.declared.reader.Root.{Root}
 use Rattle.doc_model.specs.Growing.{Growing, growing, with_attr, with_text, with_comment, with_element, with_close, rest_of, AwaitsAttr}
 use Rattle.html_reader.specs.Kept.{IsNew, AreKept, EndsInElement}

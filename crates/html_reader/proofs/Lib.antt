@@ -24,3 +24,14 @@ pub mod FaultLemmas
 pub mod PageReadings
 pub mod KeepLemmas
 pub mod LoopLemmas
+pub mod BackLemmas
+pub mod CleanLemmas
+pub mod InkLemmas
+pub mod LowerLemmas
+pub mod KeptInkLemmas
+pub mod PageInkLemmas
+pub mod InkLawLemmas
+pub mod NotUtf8
+pub mod NameFacts
+pub mod SegmentLemmas
+pub mod ContentOfRows

@@ -1,5 +1,5 @@
 -- The rows from place to place.
-use Rattle.std.proofs.Common.{◌≡◌, ℕ, [], Bool, refl, ap}
+use Rattle.std.proofs.Common.{◌≡◌, ℕ, Bool, refl, ap}
 use Rattle.html_reader.specs.Tokens.{Tag, Leaf}
 use Rattle.html_reader.specs.Forest.{Forest, nothing, then_leaf, then_element}
 use Rattle.html_reader.specs.Rows.{Sofar, with_leaf, grown}

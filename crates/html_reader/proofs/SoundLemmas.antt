@@ -36,14 +36,14 @@ reached_sound next s h = subst IsSound h.reached.state (place_sound s.rooted.mad
 pub reached_shut : (next : Option Tok) (s : State) → IsReached next s → is_shut s.tags next ≡ true → IsReached next (closed s)
 reached_shut next s h must = record { tokens = h.tokens; reached = reach_shut h.tokens next s h.reached must }
 
-shuts_tags : (next : Option Tok) (tags : List Tag) (rooted : Root) (g : Grown) → is_shut tags next ≡ true → after_shuts next tags rooted g ≡ shuts next (closed (state tags rooted g))
+pub shuts_tags : (next : Option Tok) (tags : List Tag) (rooted : Root) (g : Grown) → is_shut tags next ≡ true → after_shuts next tags rooted g ≡ shuts next (closed (state tags rooted g))
 shuts_tags next [] rooted g h = cc
 shuts_tags next (tag ∷ before) rooted g h = rw h refl
 
 pub shuts_more : (next : Option Tok) (s t first : State) → shuts next s ≡ shuts next first → is_shut s.tags next ≡ true → t ≡ closed s → shuts next t ≡ shuts next first
 shuts_more next s t first e h is = ap (shuts next) is ∙ sym (shuts_tags next s.tags s.rooted s.grown h) ∙ e
 
-none_tags : (next : Option Tok) (tags : List Tag) (rooted : Root) (g : Grown) → is_shut tags next ≡ false → after_shuts next tags rooted g ≡ state tags rooted g
+pub none_tags : (next : Option Tok) (tags : List Tag) (rooted : Root) (g : Grown) → is_shut tags next ≡ false → after_shuts next tags rooted g ≡ state tags rooted g
 none_tags next [] rooted g h = refl
 none_tags next (tag ∷ before) rooted g h = rw h refl
 

@@ -1,4 +1,4 @@
-use Rattle.std.proofs.Common.{◌≡◌, ◌∙◌, sym, ap, subst, Ok, None, true}
+use Rattle.std.proofs.Common.{◌∙◌, sym, ap, subst, Ok, None}
 use Rattle.std.specs.Prelude.{Option, not}
 use Rattle.html_lexer.specs.Tokens.{view}
 use Rattle.html_lexer.specs.Lexing.{GivesToken, IsNext}

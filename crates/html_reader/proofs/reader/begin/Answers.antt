@@ -1,4 +1,4 @@
-use Rattle.std.proofs.Common.{◌≡◌, ◌∙◌, refl, sym, ap, arith, length, rules, true, false, []}
+use Rattle.std.proofs.Common.{refl, ap, arith, length, rules}
 use Rattle.doc_model.specs.Growing.{Growing}
 use Rattle.std.specs.Prelude.{codes}
 use Rattle.std.specs.Str.{IsUtf8}

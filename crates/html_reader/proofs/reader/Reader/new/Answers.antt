@@ -1,4 +1,4 @@
-use Rattle.std.proofs.Common.{◌≡◌, [], false, rules, ap}
+use Rattle.std.proofs.Common.{◌≡◌, [], false, rules}
 use Rattle.html_reader.specs.States.{the_state}
 use Rattle.html_reader.specs.Machine.{state}
 use Rattle.html_reader.specs.States.{tags_onto}
