@@ -20,8 +20,8 @@ abbrev pub AreAttributes : Document → ℕ → ℕ → Type 0
 AreAttributes doc x r = (z : ℕ) → x < z → z < r → (is_attribute doc z ≡ true) × ((row doc z).parent ≡ x)
 
 -- those of them that stand before r
-abbrev pub attributes_before : Document → ℕ → ℕ → List ℕ
-attributes_before doc x r = flat_map (attribute_markup doc) (filter (on_axis doc axis.Attribute x) (range_with_len 0 r))
+abbrev pub attributes_before : Bool → Document → ℕ → ℕ → List ℕ
+attributes_before back doc x r = flat_map (attribute_markup back doc) (filter (on_axis doc axis.Attribute x) (range_with_len 0 r))
 
 element_is_none : (doc : Document) (x : ℕ) → (row doc x).kind ≡ Element → is_attribute doc x ≡ true → ⊥
 element_is_none doc x e a = both_ways _ (ap is_attribute_kind e) a
@@ -44,10 +44,10 @@ next_attribute doc x r d element behind within passed a = from (before_cases doc
     from (k, inr b) (inl l) = sym b.1 ∙ (passed (r - 1) l (omega arith)).1
     from (k, inr b) (inr l) = let here : r - 1 ≡ x = omega arith in absurd (element_is_none doc x element (subst (λ v. is_attribute doc v ≡ true) here b.0))
 
-pub attributes_start : (doc : Document) (x r : ℕ) → IsDocument doc → r ≡ x + 1 → attributes_before doc x r ≡ []
-attributes_start doc x r d e =
+pub attributes_start : (back : Bool) (doc : Document) (x r : ℕ) → IsDocument doc → r ≡ x + 1 → attributes_before back doc x r ≡ []
+attributes_start back doc x r d e =
     let m = small doc d in
-    ap (flat_map (attribute_markup doc))
+    ap (flat_map (attribute_markup back doc))
     (upto_none (on_axis doc axis.Attribute x) r (λ z l. and_right _ _ (not_parent doc x z (λ some s. let up : (row doc z).parent < z = m z some in omega arith))))
 
 pub attributes_passed : (doc : Document) (x r : ℕ) → IsDocument doc → (row doc x).kind ≡ Element → x < r → r < length doc → AreAttributes doc x r → is_attribute doc r ≡ true → AreAttributes doc x (r + 1)
@@ -62,13 +62,13 @@ one f y b e = ap (λ v. flat_map f (cond v (y ∷ []) [])) e ∙ append-nil (f y
 on_attributes : (doc : Document) (x r : ℕ) → 0 < r → is_attribute doc r ≡ true → (row doc r).parent ≡ x → on_axis doc axis.Attribute x r ≡ true
 on_attributes doc x r some a e = true_and _ (is_parent doc x r) a ∙ true_and _ (eqb (row doc r).parent x) (lt-ltb 0 r some) ∙ eq-eqb _ _ e
 
-pub attributes_more : (doc : Document) (x r : ℕ) → IsDocument doc → (row doc x).kind ≡ Element → x < r → r < length doc → AreAttributes doc x r → is_attribute doc r ≡ true
-    → attributes_before doc x (r + 1) ≡ attributes_before doc x r ++ attribute_markup doc r
-attributes_more doc x r d element behind within passed a =
+pub attributes_more : (back : Bool) (doc : Document) (x r : ℕ) → IsDocument doc → (row doc x).kind ≡ Element → x < r → r < length doc → AreAttributes doc x r → is_attribute doc r ≡ true
+    → attributes_before back doc x (r + 1) ≡ attributes_before back doc x r ++ attribute_markup back doc r
+attributes_more back doc x r d element behind within passed a =
     let on = on_attributes doc x r (omega arith) a (next_attribute doc x r d element behind within passed a) in
-    ap (flat_map (attribute_markup doc)) (upto_more (on_axis doc axis.Attribute x) r (r + 1) (omega arith) (λ z k l. absurd (omega (arith, k, l))))
-    ∙ flat_map-append (attribute_markup doc) (filter (on_axis doc axis.Attribute x) (range_with_len 0 r)) (cond (on_axis doc axis.Attribute x r) (r ∷ []) [])
-    ∙ ap (λ t. attributes_before doc x r ++ t) (one (attribute_markup doc) r (on_axis doc axis.Attribute x r) on)
+    ap (flat_map (attribute_markup back doc)) (upto_more (on_axis doc axis.Attribute x) r (r + 1) (omega arith) (λ z k l. absurd (omega (arith, k, l))))
+    ∙ flat_map-append (attribute_markup back doc) (filter (on_axis doc axis.Attribute x) (range_with_len 0 r)) (cond (on_axis doc axis.Attribute x r) (r ∷ []) [])
+    ∙ ap (λ t. attributes_before back doc x r ++ t) (one (attribute_markup back doc) r (on_axis doc axis.Attribute x r) on)
 
 pub attributes_end : (doc : Document) (x r : ℕ) → x < r → r ≤ length doc → AreAttributes doc x r → (r < length doc → is_attribute doc r ≡ false) → EndsOwn doc x r
 attributes_end doc x r behind within passed end = record {
@@ -76,7 +76,7 @@ attributes_end doc x r behind within passed end = record {
   own = λ z l k. (passed z l k).1;
 }
 
-pub attributes_all : (doc : Document) (x r : ℕ) → IsDocument doc → EndsOwn doc x r → attributes_before doc x r ≡ flat_map (attribute_markup doc) (attributes doc x)
-attributes_all doc x r d e =
+pub attributes_all : (back : Bool) (doc : Document) (x r : ℕ) → IsDocument doc → EndsOwn doc x r → attributes_before back doc x r ≡ flat_map (attribute_markup back doc) (attributes doc x)
+attributes_all back doc x r d e =
     let w = attribute_walk doc x r d e.ends in
-    ap (flat_map (attribute_markup doc)) (upto_all (on_axis doc axis.Attribute x) r (length doc) w.ends (λ z l k. w.after z l k))
+    ap (flat_map (attribute_markup back doc)) (upto_all (on_axis doc axis.Attribute x) r (length doc) w.ends (λ z l k. w.after z l k))

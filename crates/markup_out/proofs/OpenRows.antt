@@ -1,5 +1,5 @@
 -- What is still to be written while the markup of a row is written.
-use Rattle.std.proofs.Common.{◌≡◌, ℕ, ◌+◌, ◌-◌, ◌*◌, ◌<◌, ◌≤◌, List, [], ◌∷◌, ◌++◌, length, true, false, cond, refl, sym, ◌∙◌, ap, subst, arith, inl, inr, ◌⊎◌, append_assoc}
+use Rattle.std.proofs.Common.{◌≡◌, ℕ, ◌+◌, ◌-◌, ◌*◌, ◌<◌, ◌≤◌, Bool, List, [], ◌∷◌, ◌++◌, length, true, false, cond, refl, sym, ◌∙◌, ap, subst, arith, inl, inr, ◌⊎◌, append_assoc}
 use Rattle.std.specs.Prelude.{filter, flat_map}
 use Rattle.std.specs.List.{range_with_len}
 use Rattle.std.proofs.lemmas.Bool.{and_parts, cases_lt, cases_eq, ltb-true, both_ways, false_from_ne_true}
@@ -15,7 +15,7 @@ use Rattle.doc_model.proofs.Filters.{from_to, none_in, single}
 use Rattle.markup_out.specs.declared.output.Output.{Output}
 use Rattle.markup_out.specs.Adding.{Adds}
 use Rattle.markup_out.specs.Content.{before, after, content_from, IsNextChild, Begins}
-use Rattle.markup_out.specs.Markup.{markup}
+use Rattle.markup_out.specs.Markup.{styled}
 use Rattle.markup_out.proofs.AddingLemmas.{both, same, adds_over}
 use Rattle.markup_out.proofs.ContentRows.{child_parent, child_no_attribute, nested_cases, on_child, no_content}
 use Rattle.markup_out.proofs.AttributeRows.{before_cases}
@@ -24,25 +24,25 @@ use Rattle.std.proofs.Math.Nat.{mul-le-mul_left, mul-add}
 
 -- What is written behind the content of x up to the end of the markup of i, where x is i or below it: what stands
 -- after x, then the children of its parent behind it, and so on upwards.
-pub data IsRest (doc : Document) (i : ℕ) : ℕ → List ℕ → Type 0 where
-  last : IsRest doc i i (after doc i)
-  further : (x : ℕ) (rest : List ℕ) → (x ≡ i → ⊥) → on_axis doc axis.Child (row doc x).parent x ≡ true → x < length doc → IsRest doc i (row doc x).parent rest
-      → IsRest doc i x (after doc x ++ (content_from doc (row doc x).parent (x + 1) ++ rest))
+pub data IsRest (back : Bool) (doc : Document) (i : ℕ) : ℕ → List ℕ → Type 0 where
+  last : IsRest back doc i i (after doc i)
+  further : (x : ℕ) (rest : List ℕ) → (x ≡ i → ⊥) → on_axis doc axis.Child (row doc x).parent x ≡ true → x < length doc → IsRest back doc i (row doc x).parent rest
+      → IsRest back doc i x (after doc x ++ (content_from back doc (row doc x).parent (x + 1) ++ rest))
 
 -- the content of x is written up to y
-pub record Going (doc : Document) (i x y : ℕ) (start now : Output) : Type 0 where
+pub record Going (back : Bool) (doc : Document) (i x y : ℕ) (start now : Output) : Type 0 where
   pub written : List ℕ
   pub rest : List ℕ
   pub adds : Adds start now written
-  pub is_rest : IsRest doc i x rest
-  pub whole : written ++ (content_from doc x y ++ rest) ≡ markup doc i
+  pub is_rest : IsRest back doc i x rest
+  pub whole : written ++ (content_from back doc x y ++ rest) ≡ styled back doc i
   pub next : IsNextChild doc x y
   pub behind : x < y
   pub within : y ≤ length doc
 
-pub starts : (doc : Document) (i y : ℕ) (start now : Output) → Adds start now (before doc i) → Begins doc i y → Going doc i i y start now
-starts doc i y start now a b = record {
-  written = before doc i;
+pub starts : (back : Bool) (doc : Document) (i y : ℕ) (start now : Output) → Adds start now (before back doc i) → Begins back doc i y → Going back doc i i y start now
+starts back doc i y start now a b = record {
+  written = before back doc i;
   rest = after doc i;
   adds = a;
   is_rest = last;
@@ -52,11 +52,11 @@ starts doc i y start now a b = record {
   within = b.within;
 }
 
-rest_from : (doc : Document) (i x : ℕ) (rest : List ℕ) → Small doc → IsRest doc i x rest → i ≤ x
-rest_from doc i _ _ m last = omega arith
-rest_from doc i _ _ m (further x rest other child inside r) =
+rest_from : (back : Bool) (doc : Document) (i x : ℕ) (rest : List ℕ) → Small doc → IsRest back doc i x rest → i ≤ x
+rest_from back doc i _ _ m last = omega arith
+rest_from back doc i _ _ m (further x rest other child inside r) =
     let up : (row doc x).parent < x = child_behind doc (row doc x).parent x m child in
-    let from : i ≤ (row doc x).parent = rest_from doc i (row doc x).parent rest m r in
+    let from : i ≤ (row doc x).parent = rest_from back doc i (row doc x).parent rest m r in
     omega arith
 
 -- ---- a child is opened
@@ -68,33 +68,33 @@ next_child doc x y e end l (inr f) =
     absurd (both_ways _ (f.outside known) (end.inside y f.after l))
 
 -- the child y, and then those behind it
-child_first : (doc : Document) (x y : ℕ) → on_axis doc axis.Child x y ≡ true → y < length doc → content_from doc x y ≡ markup doc y ++ content_from doc x (y + 1)
-child_first doc x y k l =
+child_first : (back : Bool) (doc : Document) (x y : ℕ) → on_axis doc axis.Child x y ≡ true → y < length doc → content_from back doc x y ≡ styled back doc y ++ content_from back doc x (y + 1)
+child_first back doc x y k l =
     let p = on_axis doc axis.Child x in
-    ap (flat_map (markup doc)) (from_to p y (y + 1) (length doc) (omega arith) (omega arith))
-    ∙ flat_map-append (markup doc) (filter p (range_with_len y (y + 1 - y))) (filter p (range_with_len (y + 1) (length doc - (y + 1))))
-    ∙ ap (λ t. flat_map (markup doc) t ++ content_from doc x (y + 1)) (single p y (y + 1) (omega arith) (λ z m n. absurd (omega (arith, m, n))) ∙ ap (λ b. cond b (y ∷ []) []) k)
-    ∙ ap (λ t. t ++ content_from doc x (y + 1)) (append-nil (markup doc y))
+    ap (flat_map (styled back doc)) (from_to p y (y + 1) (length doc) (omega arith) (omega arith))
+    ∙ flat_map-append (styled back doc) (filter p (range_with_len y (y + 1 - y))) (filter p (range_with_len (y + 1) (length doc - (y + 1))))
+    ∙ ap (λ t. flat_map (styled back doc) t ++ content_from back doc x (y + 1)) (single p y (y + 1) (omega arith) (λ z m n. absurd (omega (arith, m, n))) ∙ ap (λ b. cond b (y ∷ []) []) k)
+    ∙ ap (λ t. t ++ content_from back doc x (y + 1)) (append-nil (styled back doc y))
 
 opened_whole : (w b c a f r m z : List ℕ) → m ≡ b ++ (c ++ a) → w ++ ((m ++ f) ++ r) ≡ z → (w ++ b) ++ (c ++ (a ++ (f ++ r))) ≡ z
 opened_whole w b c a f r m z e h =
     append_assoc w b (c ++ (a ++ (f ++ r))) ∙ ap (λ t. w ++ t) (ap (λ t. b ++ t) (sym (append_assoc c a (f ++ r))) ∙ sym (append_assoc b (c ++ a) (f ++ r)) ∙ ap (λ t. t ++ (f ++ r)) (sym e) ∙ sym (append_assoc m f r))
     ∙ h
 
-pub opens : (doc : Document) (i x y n : ℕ) (start now then : Output) → IsDocument doc → on_axis doc axis.Child x y ≡ true → y < length doc → Going doc i x y start now → Adds now then (before doc y) → Begins doc y n
-    → Going doc i y n start then
-opens doc i x y n start now then d child inside g a b =
-    let from : i ≤ x = rest_from doc i x g.rest (small doc d) g.is_rest in
+pub opens : (back : Bool) (doc : Document) (i x y n : ℕ) (start now then : Output) → IsDocument doc → on_axis doc axis.Child x y ≡ true → y < length doc → Going back doc i x y start now → Adds now then (before back doc y) → Begins back doc y n
+    → Going back doc i y n start then
+opens back doc i x y n start now then d child inside g a b =
+    let from : i ≤ x = rest_from back doc i x g.rest (small doc d) g.is_rest in
     let behind : x < y = g.behind in
     let parent_is : (row doc y).parent ≡ x = child_parent doc x y child in
     record {
-      written = g.written ++ before doc y;
-      rest = after doc y ++ (content_from doc (row doc y).parent (y + 1) ++ g.rest);
-      adds = both start now then g.written (before doc y) g.adds a;
-      is_rest = further y g.rest (λ e. omega arith) (subst (λ v. on_axis doc axis.Child v y ≡ true) (sym parent_is) child) inside (subst (λ v. IsRest doc i v g.rest) (sym parent_is) g.is_rest);
+      written = g.written ++ before back doc y;
+      rest = after doc y ++ (content_from back doc (row doc y).parent (y + 1) ++ g.rest);
+      adds = both start now then g.written (before back doc y) g.adds a;
+      is_rest = further y g.rest (λ e. omega arith) (subst (λ v. on_axis doc axis.Child v y ≡ true) (sym parent_is) child) inside (subst (λ v. IsRest back doc i v g.rest) (sym parent_is) g.is_rest);
       whole =
-          opened_whole g.written (before doc y) (content_from doc y n) (after doc y) (content_from doc (row doc y).parent (y + 1)) g.rest (markup doc y) (markup doc i) b.whole
-          (ap (λ v. g.written ++ ((markup doc y ++ content_from doc v (y + 1)) ++ g.rest)) parent_is ∙ ap (λ t. g.written ++ (t ++ g.rest)) (sym (child_first doc x y child inside)) ∙ g.whole);
+          opened_whole g.written (before back doc y) (content_from back doc y n) (after doc y) (content_from back doc (row doc y).parent (y + 1)) g.rest (styled back doc y) (styled back doc i) b.whole
+          (ap (λ v. g.written ++ ((styled back doc y ++ content_from back doc v (y + 1)) ++ g.rest)) parent_is ∙ ap (λ t. g.written ++ (t ++ g.rest)) (sym (child_first back doc x y child inside)) ∙ g.whole);
       next = b.next;
       behind = b.behind;
       within = b.within;
@@ -109,23 +109,23 @@ at_end doc x y e d end l (inl k) =
     absurd (omega arith)
 at_end doc x y e d end l (inr f) = f
 
-rest_last : (doc : Document) (i x : ℕ) (rest : List ℕ) → x ≡ i → IsRest doc i x rest → rest ≡ after doc i
-rest_last doc i _ _ e last = refl
-rest_last doc i _ _ e (further x rest other child inside r) = absurd (other e)
+rest_last : (back : Bool) (doc : Document) (i x : ℕ) (rest : List ℕ) → x ≡ i → IsRest back doc i x rest → rest ≡ after doc i
+rest_last back doc i _ _ e last = refl
+rest_last back doc i _ _ e (further x rest other child inside r) = absurd (other e)
 
-pub closes_all : (doc : Document) (i x y : ℕ) (start now then : Output) → IsDocument doc → x ≡ i → IsEnd doc x y → Going doc i x y start now → Adds now then (after doc x) → Adds start then (markup doc i)
-closes_all doc i x y start now then d e end g a =
-    same start then (g.written ++ after doc x) (markup doc i)
-    (ap (λ t. g.written ++ t) (ap (after doc) e ∙ sym (rest_last doc i x g.rest e g.is_rest)) ∙ ap (λ t. g.written ++ (t ++ g.rest)) (sym (no_content doc x y d end)) ∙ g.whole)
+pub closes_all : (back : Bool) (doc : Document) (i x y : ℕ) (start now then : Output) → IsDocument doc → x ≡ i → IsEnd doc x y → Going back doc i x y start now → Adds now then (after doc x) → Adds start then (styled back doc i)
+closes_all back doc i x y start now then d e end g a =
+    same start then (g.written ++ after doc x) (styled back doc i)
+    (ap (λ t. g.written ++ t) (ap (after doc) e ∙ sym (rest_last back doc i x g.rest e g.is_rest)) ∙ ap (λ t. g.written ++ (t ++ g.rest)) (sym (no_content back doc x y d end)) ∙ g.whole)
     (both start now then g.written (after doc x) g.adds a)
 
 -- the rows below a child are no children of its parent
-past_below : (doc : Document) (p x y : ℕ) → IsDocument doc → on_axis doc axis.Child p x ≡ true → x < y → y ≤ length doc → ((z : ℕ) → x < z → z < y → below doc x z ≡ true) → content_from doc p (x + 1) ≡ content_from doc p y
-past_below doc p x y d child l within inside =
+past_below : (back : Bool) (doc : Document) (p x y : ℕ) → IsDocument doc → on_axis doc axis.Child p x ≡ true → x < y → y ≤ length doc → ((z : ℕ) → x < z → z < y → below doc x z ≡ true) → content_from back doc p (x + 1) ≡ content_from back doc p y
+past_below back doc p x y d child l within inside =
     let m = small doc d in
     let test = on_axis doc axis.Child p in
     let up : p < x = child_behind doc p x m child in
-    ap (flat_map (markup doc))
+    ap (flat_map (styled back doc))
     (from_to test (x + 1) y (length doc) (omega arith) within
     ∙ ap (λ v. v ++ filter test (range_with_len y (length doc - y)))
     (none_in test (y - (x + 1)) (x + 1) (λ z h k. false_from_ne_true _ (λ c.
@@ -219,10 +219,10 @@ next_sibling doc p x y e d child inside end outer (inr l) =
       | inr k ↦ inr (let same_end : e ≡ y = omega arith in subst (λ v. IsEnd doc p v) same_end outer)
     ]
 
-closed : (doc : Document) (i x y e : ℕ) (rest written : List ℕ) (start now then : Output) → IsDocument doc → (x ≡ i → ⊥) → IsEnd doc x y → IsEnd doc (row doc x).parent e → Adds start now written
-    → written ++ (content_from doc x y ++ rest) ≡ markup doc i → Adds now then (after doc x) → IsRest doc i x rest → Going doc i (row doc x).parent y start then
-closed doc i _ y e _ written start now then d other end outer a whole b last = absurd (other refl)
-closed doc i _ y e _ written start now then d other end outer a whole b (further x rest n child inside r) =
+closed : (back : Bool) (doc : Document) (i x y e : ℕ) (rest written : List ℕ) (start now then : Output) → IsDocument doc → (x ≡ i → ⊥) → IsEnd doc x y → IsEnd doc (row doc x).parent e → Adds start now written
+    → written ++ (content_from back doc x y ++ rest) ≡ styled back doc i → Adds now then (after doc x) → IsRest back doc i x rest → Going back doc i (row doc x).parent y start then
+closed back doc i _ y e _ written start now then d other end outer a whole b last = absurd (other refl)
+closed back doc i _ y e _ written start now then d other end outer a whole b (further x rest n child inside r) =
     let m = small doc d in
     let p = (row doc x).parent in
     let up : (row doc x).parent < x = child_behind doc p x m child in
@@ -233,23 +233,23 @@ closed doc i _ y e _ written start now then d other end outer a whole b (further
       adds = both start now then written (after doc x) a b;
       is_rest = r;
       whole =
-          append_assoc written (after doc x) (content_from doc p y ++ rest)
-          ∙ ap (λ t. written ++ (after doc x ++ (t ++ rest))) (sym (past_below doc p x y d child behind end.within end.inside))
-          ∙ ap (λ t. written ++ (t ++ (after doc x ++ (content_from doc p (x + 1) ++ rest)))) (sym (no_content doc x y d end))
+          append_assoc written (after doc x) (content_from back doc p y ++ rest)
+          ∙ ap (λ t. written ++ (after doc x ++ (t ++ rest))) (sym (past_below back doc p x y d child behind end.within end.inside))
+          ∙ ap (λ t. written ++ (t ++ (after doc x ++ (content_from back doc p (x + 1) ++ rest)))) (sym (no_content back doc x y d end))
           ∙ whole;
       next = next_sibling doc p x y e d child inside end outer (cases_lt y e);
       behind = omega arith;
       within = end.within;
     }
 
-pub closes : (doc : Document) (i x y e : ℕ) (start now then : Output) → IsDocument doc → (x ≡ i → ⊥) → IsEnd doc x y → IsEnd doc (row doc x).parent e → Going doc i x y start now → Adds now then (after doc x)
-    → Going doc i (row doc x).parent y start then
-closes doc i x y e start now then d other end outer g a = closed doc i x y e g.rest g.written start now then d other end outer g.adds g.whole a g.is_rest
+pub closes : (back : Bool) (doc : Document) (i x y e : ℕ) (start now then : Output) → IsDocument doc → (x ≡ i → ⊥) → IsEnd doc x y → IsEnd doc (row doc x).parent e → Going back doc i x y start now → Adds now then (after doc x)
+    → Going back doc i (row doc x).parent y start then
+closes back doc i x y e start now then d other end outer g a = closed back doc i x y e g.rest g.written start now then d other end outer g.adds g.whole a g.is_rest
 
 -- ---- what is written is too much already
 
-pub goes_on_over : (doc : Document) (i x y : ℕ) (start now : Output) → now.over ≡ true → Going doc i x y start now → Adds start now (markup doc i)
-goes_on_over doc i x y start now h g = same start now _ _ g.whole (adds_over start now g.written (content_from doc x y ++ g.rest) h g.adds)
+pub goes_on_over : (back : Bool) (doc : Document) (i x y : ℕ) (start now : Output) → now.over ≡ true → Going back doc i x y start now → Adds start now (styled back doc i)
+goes_on_over back doc i x y start now h g = same start now _ _ g.whole (adds_over start now g.written (content_from back doc x y ++ g.rest) h g.adds)
 
 -- ---- the loop ends
 
@@ -262,9 +262,9 @@ open_less n x y z h k l =
     omega arith
 
 -- a row whose content ends is no root node, where it is not i
-rest_parent : (doc : Document) (i x : ℕ) (rest : List ℕ) → Small doc → (x ≡ i → ⊥) → IsRest doc i x rest → (row doc x).parent < x
-rest_parent doc i _ _ m other last = absurd (other refl)
-rest_parent doc i _ _ m other (further x rest n child inside r) = child_behind doc (row doc x).parent x m child
+rest_parent : (back : Bool) (doc : Document) (i x : ℕ) (rest : List ℕ) → Small doc → (x ≡ i → ⊥) → IsRest back doc i x rest → (row doc x).parent < x
+rest_parent back doc i _ _ m other last = absurd (other refl)
+rest_parent back doc i _ _ m other (further x rest n child inside r) = child_behind doc (row doc x).parent x m child
 
-pub closed_parent : (doc : Document) (i x y : ℕ) (start now : Output) → IsDocument doc → (x ≡ i → ⊥) → Going doc i x y start now → (row doc x).parent < x
-closed_parent doc i x y start now d other g = rest_parent doc i x g.rest (small doc d) other g.is_rest
+pub closed_parent : (back : Bool) (doc : Document) (i x y : ℕ) (start now : Output) → IsDocument doc → (x ≡ i → ⊥) → Going back doc i x y start now → (row doc x).parent < x
+closed_parent back doc i x y start now d other g = rest_parent back doc i x g.rest (small doc d) other g.is_rest

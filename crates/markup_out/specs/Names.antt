@@ -21,3 +21,10 @@ is_void name = is_one_of void_names name
 
 abbrev pub is_raw : List ℕ → Bool
 is_raw name = is_one_of raw_names name
+
+-- elements whose content may begin with a newline that does not count
+unfoldable pub newline_names : List (List ℕ)
+newline_names = codes "pre" ∷ codes "textarea" ∷ codes "listing" ∷ []
+
+abbrev pub takes_newline : List ℕ → Bool
+takes_newline name = is_one_of newline_names name

@@ -9,37 +9,39 @@ use crate::output::Output;
 use text_base::NoMemory;
 
 /// A character of a text.
-fn push_text_char(out: &mut Output, c: char) -> Result<(), NoMemory>
-    ensures { OnOk result (Adds out.old out.new (text_escape c)) }
+fn push_text_char(out: &mut Output, back: bool, c: char) -> Result<(), NoMemory>
+    ensures { OnOk result (Adds out.old out.new (text_escape back c)) }
 {
     match c {
         '&' => out.push("&amp;"),
         '<' => out.push("&lt;"),
         '>' => out.push("&gt;"),
         '\u{a0}' => out.push("&nbsp;"),
+        '\r' if back => out.push("&#13;"),
         _ => out.push_char(c),
     }
 }
 
 /// A character of a value.
-fn push_value_char(out: &mut Output, c: char) -> Result<(), NoMemory>
-    ensures { OnOk result (Adds out.old out.new (value_escape c)) }
+fn push_value_char(out: &mut Output, back: bool, c: char) -> Result<(), NoMemory>
+    ensures { OnOk result (Adds out.old out.new (value_escape back c)) }
 {
     match c {
         '&' => out.push("&amp;"),
         '"' => out.push("&quot;"),
         '\u{a0}' => out.push("&nbsp;"),
+        '\r' if back => out.push("&#13;"),
         _ => out.push_char(c),
     }
 }
 
-fn push_char(out: &mut Output, quoted: bool, c: char) -> Result<(), NoMemory>
-    ensures { OnOk result (Adds out.old out.new (escape quoted c)) }
+fn push_char(out: &mut Output, back: bool, quoted: bool, c: char) -> Result<(), NoMemory>
+    ensures { OnOk result (Adds out.old out.new (escape back quoted c)) }
 {
     if quoted {
-        push_value_char(out, c)
+        push_value_char(out, back, c)
     } else {
-        push_text_char(out, c)
+        push_text_char(out, back, c)
     }
 }
 
@@ -47,7 +49,7 @@ fn push_char(out: &mut Output, quoted: bool, c: char) -> Result<(), NoMemory>
 fn is_special(c: char) -> bool
     ensures { result ≡ is_special c }
 {
-    matches!(c, '&' | '<' | '>' | '"' | '\u{a0}')
+    matches!(c, '&' | '<' | '>' | '"' | '\u{a0}' | '\r')
 }
 
 fn has_special(text: &str) -> bool
@@ -56,21 +58,21 @@ fn has_special(text: &str) -> bool
     text.chars().any(|c| is_special(c))
 }
 
-fn push_each(out: &mut Output, quoted: bool, text: &str) -> Result<(), NoMemory>
-    ensures { OnOk result (Adds out.old out.new (escaped quoted (chars text.now))) }
+fn push_each(out: &mut Output, back: bool, quoted: bool, text: &str) -> Result<(), NoMemory>
+    ensures { OnOk result (Adds out.old out.new (escaped back quoted (chars text.now))) }
 {
     for c in text.chars() {
-        push_char(out, quoted, c)?;
+        push_char(out, back, quoted, c)?;
     }
     Ok(())
 }
 
-/// Writes a text, or a value, with its characters escaped.
-pub fn push_escaped(out: &mut Output, quoted: bool, text: &str) -> Result<(), NoMemory>
-    ensures { OnOk result (Adds out.old out.new (escaped quoted (chars text.now))) }
+/// Writes a text, or a value, with its characters escaped: as it is shown, or so that HTML reads it back.
+pub fn push_escaped(out: &mut Output, back: bool, quoted: bool, text: &str) -> Result<(), NoMemory>
+    ensures { OnOk result (Adds out.old out.new (escaped back quoted (chars text.now))) }
 {
     if has_special(text) {
-        push_each(out, quoted, text)
+        push_each(out, back, quoted, text)
     } else {
         out.push(text)
     }

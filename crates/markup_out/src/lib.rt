@@ -11,4 +11,4 @@ mod tests;
 mod writing;
 
 pub use laws::markup_of_children;
-pub use writing::{TooLarge, markup};
+pub use writing::{TooLarge, canonical, markup};

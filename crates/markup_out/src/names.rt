@@ -1,13 +1,15 @@
 //! Elements whose markup is told by their names.
 ghost use Rattle.std.specs.Prelude.{◌≡◌};
 ghost use Rattle.std.specs.Str.{chars};
-ghost use Rattle.markup_out.specs.Names.{is_one_of, is_void, is_raw};
+ghost use Rattle.markup_out.specs.Names.{is_one_of, is_void, is_raw, takes_newline};
 ghost use Rattle.markup_out.specs.Views.{texts};
 
 static VOID: [&str; 14] = [
     "area", "base", "br", "col", "embed", "hr", "img", "input", "link", "meta", "param", "source",
     "track", "wbr",
 ];
+
+static NEWLINE: [&str; 3] = ["pre", "textarea", "listing"];
 
 static RAW: [&str; 6] = ["script", "style", "iframe", "xmp", "noembed", "noframes"];
 
@@ -34,4 +36,11 @@ pub fn is_raw(name: &str) -> bool
     ensures { result ≡ is_raw (chars name.now) }
 {
     is_one_of(&RAW, name)
+}
+
+/// Whether a newline at the beginning of the element's content does not count.
+pub fn takes_newline(name: &str) -> bool
+    ensures { result ≡ takes_newline (chars name.now) }
+{
+    is_one_of(&NEWLINE, name)
 }

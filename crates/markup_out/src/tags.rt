@@ -3,14 +3,14 @@ ghost use Rattle.std.specs.Prelude.{◌≡◌, ◌<◌, length, flat_map, OnOk, 
 ghost use Rattle.doc_model.specs.Document.{row, is_attribute};
 ghost use Rattle.doc_model.specs.declared.Kind.TheVariants as kind;
 ghost use Rattle.markup_out.specs.Adding.{Adds};
-ghost use Rattle.markup_out.specs.Content.{before, after, Begins, EndsOwn};
-ghost use Rattle.markup_out.specs.Markup.{attribute_markup, attributes, start_tag, end_tag, text_markup, comment_markup};
+ghost use Rattle.markup_out.specs.Content.{before, before_of, after, Begins, EndsOwn};
+ghost use Rattle.markup_out.specs.Markup.{children, attribute_markup, attributes, start_tag, newline_first, newline, end_tag, text_markup, comment_markup};
 
 use crate::escapes::push_escaped;
-use crate::names::{is_raw, is_void};
+use crate::names::{is_raw, is_void, takes_newline};
 use crate::output::Output;
 use doc_model::{Kind, Tree};
-use text_base::NoMemory;
+use text_base::{NoMemory, byte_at};
 
 fn is_attribute<T: Tree>(tree: &T, r: u32) -> bool
     requires { r < length (T.document tree.now) }
@@ -20,70 +20,106 @@ fn is_attribute<T: Tree>(tree: &T, r: u32) -> bool
 }
 
 /// ` name="value"`
-fn push_attribute<T: Tree>(tree: &T, r: u32, out: &mut Output) -> Result<(), NoMemory>
+fn push_attribute<T: Tree>(tree: &T, r: u32, back: bool, out: &mut Output) -> Result<(), NoMemory>
     requires { r < length (T.document tree.now) }
-    ensures { OnOk result (Adds out.old out.new (attribute_markup (T.document tree.now) r)) }
+    ensures { OnOk result (Adds out.old out.new (attribute_markup back (T.document tree.now) r)) }
 {
     out.push(" ")?;
     out.push(tree.name(r))?;
     out.push("=\"")?;
-    push_escaped(out, true, tree.text(r))?;
+    push_escaped(out, back, true, tree.text(r))?;
     out.push("\"")
 }
 
 /// Writes the attributes of an element, and gives the row after them.
-fn push_attributes<T: Tree>(tree: &T, x: u32, out: &mut Output) -> Result<u32, NoMemory>
+fn push_attributes<T: Tree>(tree: &T, x: u32, back: bool, out: &mut Output) -> Result<u32, NoMemory>
     requires row { x < length (T.document tree.now) }
     requires element { (row (T.document tree.now) x).kind ≡ kind.Element }
-    ensures adds { OnOk result (Adds out.old out.new (flat_map (attribute_markup (T.document tree.now)) (attributes (T.document tree.now) x))) }
+    ensures adds { OnOk result (Adds out.old out.new (flat_map (attribute_markup back (T.document tree.now)) (attributes (T.document tree.now) x))) }
     ensures end { IfOk result (λ e. EndsOwn (T.document tree.now) x e) }
 {
     let len = tree.len();
     let mut r = x + 1;
     while r < len && is_attribute(tree, r) {
-        push_attribute(tree, r, out)?;
+        push_attribute(tree, r, back, out)?;
         r += 1;
     }
     Ok(r)
 }
 
 /// `<name attributes>`, and the row after the attributes.
-fn push_start_tag<T: Tree>(tree: &T, x: u32, out: &mut Output) -> Result<u32, NoMemory>
+fn push_start_tag<T: Tree>(tree: &T, x: u32, back: bool, out: &mut Output) -> Result<u32, NoMemory>
     requires row { x < length (T.document tree.now) }
     requires element { (row (T.document tree.now) x).kind ≡ kind.Element }
-    ensures adds { OnOk result (Adds out.old out.new (start_tag (T.document tree.now) x)) }
+    ensures adds { OnOk result (Adds out.old out.new (start_tag back (T.document tree.now) x)) }
     ensures end { IfOk result (λ e. EndsOwn (T.document tree.now) x e) }
 {
     out.push("<")?;
     out.push(tree.name(x))?;
-    let end = push_attributes(tree, x, out)?;
+    let end = push_attributes(tree, x, back, out)?;
     out.push(">")?;
     Ok(end)
 }
 
+/// Whether the content of the row x, which begins at y if there is any, begins with a text that begins with a newline.
+fn newline_first<T: Tree>(tree: &T, x: u32, y: u32) -> bool
+    requires { EndsOwn (T.document tree.now) x y }
+    ensures { result ≡ newline_first (T.document tree.now) (children (T.document tree.now) x) }
+{
+    if y >= tree.len() {
+        return false;
+    }
+    if tree.parent(y) != x {
+        return false;
+    }
+    match tree.kind(y) {
+        Kind::Text => byte_at(tree.text(y), 0) == b'\n',
+        _ => false,
+    }
+}
+
+/// Writes the newline behind the start tag of an element whose content begins with one that would not count.
+fn push_newline<T: Tree>(
+    tree: &T,
+    x: u32,
+    y: u32,
+    back: bool,
+    out: &mut Output,
+) -> Result<(), NoMemory>
+    requires row { x < length (T.document tree.now) }
+    requires own { EndsOwn (T.document tree.now) x y }
+    ensures { OnOk result (Adds out.old out.new (newline back (T.document tree.now) x)) }
+{
+    if back && takes_newline(tree.name(x)) && newline_first(tree, x, y) {
+        return out.push("\n");
+    }
+    Ok(())
+}
+
 /// An element's start tag, and the row at which its content begins: a void element's at its end.
-fn push_element<T: Tree>(tree: &T, x: u32, out: &mut Output) -> Result<u32, NoMemory>
+fn push_element<T: Tree>(tree: &T, x: u32, back: bool, out: &mut Output) -> Result<u32, NoMemory>
     requires row { x < length (T.document tree.now) }
     requires element { (row (T.document tree.now) x).kind ≡ kind.Element }
-    ensures adds { OnOk result (Adds out.old out.new (start_tag (T.document tree.now) x)) }
-    ensures begins { IfOk result (λ y. Begins (T.document tree.now) x y) }
+    ensures adds { OnOk result (Adds out.old out.new (before_of back kind.Element (T.document tree.now) x)) }
+    ensures begins { IfOk result (λ y. Begins back (T.document tree.now) x y) }
 {
-    let content = push_start_tag(tree, x, out)?;
+    let content = push_start_tag(tree, x, back, out)?;
     if is_void(tree.name(x)) {
         return Ok(tree.end(x));
     }
+    push_newline(tree, x, content, back, out)?;
     Ok(content)
 }
 
 /// A text, as it is in some elements, or escaped.
-fn push_text<T: Tree>(tree: &T, x: u32, out: &mut Output) -> Result<(), NoMemory>
+fn push_text<T: Tree>(tree: &T, x: u32, back: bool, out: &mut Output) -> Result<(), NoMemory>
     requires { x < length (T.document tree.now) }
-    ensures { OnOk result (Adds out.old out.new (text_markup (T.document tree.now) x)) }
+    ensures { OnOk result (Adds out.old out.new (text_markup back (T.document tree.now) x)) }
 {
     if is_raw(tree.name(tree.parent(x))) {
         out.push(tree.text(x))
     } else {
-        push_escaped(out, false, tree.text(x))
+        push_escaped(out, back, false, tree.text(x))
     }
 }
 
@@ -98,16 +134,16 @@ fn push_comment<T: Tree>(tree: &T, x: u32, out: &mut Output) -> Result<(), NoMem
 }
 
 /// Writes what stands before the content of a row, and gives the row at which the content begins.
-pub fn push_before<T: Tree>(tree: &T, x: u32, out: &mut Output) -> Result<u32, NoMemory>
+pub fn push_before<T: Tree>(tree: &T, x: u32, back: bool, out: &mut Output) -> Result<u32, NoMemory>
     requires { x < length (T.document tree.now) }
-    ensures adds { OnOk result (Adds out.old out.new (before (T.document tree.now) x)) }
-    ensures begins { IfOk result (λ y. Begins (T.document tree.now) x y) }
+    ensures adds { OnOk result (Adds out.old out.new (before back (T.document tree.now) x)) }
+    ensures begins { IfOk result (λ y. Begins back (T.document tree.now) x y) }
 {
     match tree.kind(x) {
-        Kind::Element => return push_element(tree, x, out),
+        Kind::Element => return push_element(tree, x, back, out),
         Kind::Root => {}
-        Kind::Attribute => push_escaped(out, true, tree.text(x))?,
-        Kind::Text => push_text(tree, x, out)?,
+        Kind::Attribute => push_escaped(out, back, true, tree.text(x))?,
+        Kind::Text => push_text(tree, x, back, out)?,
         Kind::Comment => push_comment(tree, x, out)?,
     }
     Ok(x + 1)

@@ -1,7 +1,7 @@
 ghost use Rattle.std.specs.Prelude.{◌≡◌, ◌+◌, ◌<◌, ◌≤◌, [], length, OnOk};
 ghost use Rattle.doc_model.specs.Growing.{AwaitsText};
 
-use crate::{TooLarge, markup};
+use crate::{TooLarge, canonical, markup};
 use doc_model::{Grow, Piece, Tree, VecGrow, VecTree};
 use std::alloc::Global;
 use std::test::Fail;
@@ -101,6 +101,17 @@ fn shown(alloc: Global, steps: &[Step], i: u32, limit: usize) -> Result<String, 
     }
 }
 
+/// The canonical markup of a document, or `Limit`, or `Memory`.
+fn read_back(alloc: Global, steps: &[Step], limit: usize) -> Result<String, TooLarge> {
+    if steps.len() >= 2000 {
+        return Err(TooLarge::Memory);
+    }
+    match build(alloc, steps) {
+        Err(_) => Err(TooLarge::Memory),
+        Ok(tree) => canonical(alloc, &tree, limit),
+    }
+}
+
 /// `<ul><li>a<li>b</ul>`
 const ITEMS: [Step; 6] = [
     Step::Start("ul", "", "", ""),
@@ -145,6 +156,46 @@ fn shows_markup(rt: HostRuntime) -> Result<(), Fail> {
             (Ok(text), Ok(want)) => assert_eq!(rt; text.as_str(), want),
             (Err(fault), Err(want)) => assert_eq!(rt; fault, want),
             (got, _) => assert_eq!(rt; got.is_ok(), want.is_ok(), "row {i}"),
+        }
+    }
+    Ok(())
+}
+
+/// `<html a=" &#13;"><pre>`, two newlines, `x &#13;</pre><textarea><!----></textarea>`, a script with a carriage return, `</html>`
+const RETURNS: [Step; 10] = [
+    Step::Start("html", "a", " \r", ""),
+    Step::Start("pre", "b", "\n", "\nx \r"),
+    Step::End,
+    Step::Start("textarea", "", "", ""),
+    Step::Comment("\n"),
+    Step::End,
+    Step::Start("script", "", "", "\n\r<"),
+    Step::End,
+    Step::Start("br", "", "", ""),
+    Step::End,
+];
+
+#[test]
+fn writes_canonical(rt: HostRuntime) -> Result<(), Fail> {
+    let alloc = rt.alloc();
+    let mut steps = Vec::new(alloc);
+    for step in &RETURNS[..] {
+        steps.push(*step)?;
+    }
+    steps.push(Step::End)?;
+    let back =
+        "<html a=\" &#13;\"><pre b=\"\n\">\n\nx &#13;</pre><textarea><!--\n--></textarea><script>\n\r<</script><br></html>";
+    let plain =
+        "<html a=\" \r\"><pre b=\"\n\">\nx \r</pre><textarea><!--\n--></textarea><script>\n\r<</script><br></html>";
+    for (got, want) in [
+        (read_back(alloc, steps.as_slice(), 200), Ok(back)),
+        (read_back(alloc, steps.as_slice(), 10), Err(TooLarge::Limit)),
+        (shown(alloc, steps.as_slice(), 0, 200), Ok(plain)),
+    ] {
+        match (got, want) {
+            (Ok(text), Ok(want)) => assert_eq!(rt; text.as_str(), want),
+            (Err(fault), Err(want)) => assert_eq!(rt; fault, want),
+            (got, _) => assert_eq!(rt; got.is_ok(), want.is_ok()),
         }
     }
     Ok(())

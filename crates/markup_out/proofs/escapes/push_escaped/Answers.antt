@@ -7,5 +7,5 @@ use Rattle.markup_out.proofs.escapes.push_escaped.Goals as goal
 
 pub returns-else-has_special : goal.returns-else-has_special
 returns-else-has_special c =
-    let plain = plain_escaped c.args.quoted (chars c.args.text.now) (sym c.has_special.ensures ∙ c.if-has_special.false) in
+    let plain = plain_escaped c.args.back c.args.quoted (chars c.args.text.now) (sym c.has_special.ensures ∙ c.if-has_special.false) in
     adds_last _ _ _ _ _ (ap encode_utf8_all plain ∙ encode-chars c.args.text.now c.utf8.text) c.push.ensures

@@ -10,5 +10,5 @@ returns g c =
     both_last _ _ _ _ (32 ∷ []) _ (adds_ascii _ _ (32 ∷ []) refl c.in_ok-push.ensures)
     (both_last _ _ _ _ r.name _ (adds _ _ _ r.name (sym c.name.ensures.bytes) c.in_ok-push-2.ensures)
     (both_last _ _ _ _ (61 ∷ 34 ∷ []) _ (adds_ascii _ _ (61 ∷ 34 ∷ []) refl c.in_ok-push-3.ensures)
-    (both_last _ _ _ _ (escaped_value r.text) _ (same _ _ _ _ (ap escaped_value c.text.ensures.chars) c.in_ok-push_escaped.ensures)
+    (both_last _ _ _ _ (escaped_value c.args.back r.text) _ (same _ _ _ _ (ap (escaped_value c.args.back) c.text.ensures.chars) c.in_ok-push_escaped.ensures)
     (ascii_last _ _ _ (34 ∷ []) refl c.push-4.ensures))))

@@ -11,7 +11,7 @@ loop-r-init g c =
       behind = omega arith;
       within = omega (arith, c.len-len.ensures);
       passed = λ z h k. absurd (omega (arith, h, k));
-      adds = same _ _ _ _ (sym (attributes_start doc c.args.x (c.args.x + 1) (g.met.T.Tree.is_document c.args.tree.now) refl)) (none c.args.out.now);
+      adds = same _ _ _ _ (sym (attributes_start c.args.back doc c.args.x (c.args.x + 1) (g.met.T.Tree.is_document c.args.tree.now) refl)) (none c.args.out.now);
     }
 
 pub loop-r-preserved : goal.loop-r-preserved
@@ -25,7 +25,7 @@ loop-r-preserved g c =
       behind = omega (arith, i.behind);
       within = omega (arith, c.loop-r-test.true);
       passed = attributes_passed doc c.args.x c.loop-r.r d c.requires.element i.behind inside i.passed is;
-      adds = same _ _ _ _ (sym (attributes_more doc c.args.x c.loop-r.r d c.requires.element i.behind inside i.passed is)) (both _ _ _ _ _ i.adds c.in_ok-push_attribute.ensures);
+      adds = same _ _ _ _ (sym (attributes_more c.args.back doc c.args.x c.loop-r.r d c.requires.element i.behind inside i.passed is)) (both _ _ _ _ _ i.adds c.in_ok-push_attribute.ensures);
     }
 
 pub returns-else-is_attribute-clause-adds : goal.returns-else-is_attribute-clause-adds
@@ -34,4 +34,4 @@ returns-else-is_attribute-clause-adds g c =
     let d = g.met.T.Tree.is_document c.args.tree.now in
     let i = c.loop-r.invariant in
     let inside : c.loop-r.r < length doc = omega (arith, c.loop-r-test.true, c.len-len.ensures) in
-    same _ _ _ _ (attributes_all doc c.args.x c.loop-r.r d (attributes_end doc c.args.x c.loop-r.r i.behind (omega arith) i.passed (λ l. sym c.is_attribute.ensures ∙ c.if-is_attribute.false))) i.adds
+    same _ _ _ _ (attributes_all c.args.back doc c.args.x c.loop-r.r d (attributes_end doc c.args.x c.loop-r.r i.behind (omega arith) i.passed (λ l. sym c.is_attribute.ensures ∙ c.if-is_attribute.false))) i.adds

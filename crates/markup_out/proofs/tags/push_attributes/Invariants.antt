@@ -8,7 +8,7 @@ invariant-loop-r g l = record {
   behind : l.x < l.r;
   within : l.r ≤ l.len;
   passed : AreAttributes (g.T.Tree.document l.tree) l.x l.r;
-  adds : Adds l.fn.out l.out (attributes_before (g.T.Tree.document l.tree) l.x l.r);
+  adds : Adds l.fn.out l.out (attributes_before l.back (g.T.Tree.document l.tree) l.x l.r);
 }
 
 abbrev pub decreases-loop-r : goal.decreases-loop-r

@@ -11,4 +11,4 @@ returns-clause-adds g c =
     let x = row doc c.args.x in
     both _ _ _ (60 ∷ []) _ (adds_ascii _ _ (60 ∷ []) refl c.in_ok-push.ensures)
     (both _ _ _ x.name _ (adds _ _ _ x.name (sym c.name.ensures.bytes) c.in_ok-push-2.ensures)
-    (both _ _ _ (flat_map (attribute_markup doc) (attributes doc c.args.x)) (62 ∷ []) c.in_ok-end.ensures.adds (adds_ascii _ _ (62 ∷ []) refl c.in_ok-push-3.ensures)))
+    (both _ _ _ (flat_map (attribute_markup c.args.back doc) (attributes doc c.args.x)) (62 ∷ []) c.in_ok-end.ensures.adds (adds_ascii _ _ (62 ∷ []) refl c.in_ok-push-3.ensures)))

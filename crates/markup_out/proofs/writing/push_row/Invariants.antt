@@ -7,7 +7,7 @@ abbrev pub invariant-rows : goal.invariant-rows
 invariant-rows g l = record {
   inside : l.owner < length (g.T.Tree.document l.tree);
   ends : IsEnd (g.T.Tree.document l.tree) l.owner l.end;
-  going : Going (g.T.Tree.document l.tree) l.i l.owner l.y l.fn.out l.out;
+  going : Going l.back (g.T.Tree.document l.tree) l.i l.owner l.y l.fn.out l.out;
 }
 
 abbrev pub decreases-rows : goal.decreases-rows
