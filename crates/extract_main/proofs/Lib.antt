@@ -11,6 +11,7 @@ pub mod PageReadings
 pub mod Plans
 pub mod Readers
 pub mod Readings
+pub mod Tasks
 pub mod Turns
 pub mod ValueLemmas
 pub mod Walk

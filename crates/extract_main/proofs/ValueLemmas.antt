@@ -19,7 +19,7 @@ pub value_more : (doc : Document) (fields : List Field) (values : List FieldValu
     → AreValues doc (take (i + 1) fields) (values ++ v ∷ [])
 value_more doc fields values i f v h w e is = rw add-one (next_value doc fields values i f v h w e is)
 
-take_all : (fields : List Field) (i : ℕ) → length fields ≡ i → take i fields ≡ fields
+pub take_all : (fields : List Field) (i : ℕ) → length fields ≡ i → take i fields ≡ fields
 take_all [] zero e = refl
 take_all [] (suc i) e = refl
 take_all (f ∷ fields) zero e = absurd (omega arith)

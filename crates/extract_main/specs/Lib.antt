@@ -8,4 +8,5 @@ pub mod OnePage
 pub mod Output
 pub mod PageLines
 pub mod Plans
+pub mod Tasks
 pub mod Words

@@ -5,7 +5,7 @@ ghost use Rattle.extract_main.specs.Bulk.{item_tag, item_link, bulk_item, bulk_t
 ghost use Rattle.extract_main.specs.Plans.{IsBulkLine};
 
 use crate::answers::{Line, script_answer};
-use crate::page_lines::page_answer;
+use crate::page_lines::{page_answer, prepare_fields};
 use css_meaning::Dialect;
 use query_script::parse_script;
 use std::alloc::Global;
@@ -90,8 +90,15 @@ pub fn bulk_answer(alloc: Global, n: u32) -> Result<Line, NoMemory>
 {
     match parse_script(alloc, Dialect::Html, BULK_SCRIPT) {
         Ok(script) => {
+            let ready = prepare_fields(alloc, script.fields.as_slice())?;
             let page = bulk_page(alloc, n)?;
-            page_answer(alloc, &script.fields, "bulk", page.as_bytes())
+            page_answer(
+                alloc,
+                &script.fields,
+                ready.as_slice(),
+                "bulk",
+                page.as_bytes(),
+            )
         }
         Err(ScriptFault::Memory) => Err(NoMemory),
         Err(fault) => script_answer(alloc, BULK_SCRIPT, fault),

@@ -1,11 +1,13 @@
 //! The line of a page, from its bytes.
-ghost use Rattle.std.specs.Prelude.{◌≡◌, ◌≢◌, ◌≤◌, length, IsOk, IfOk, true};
+ghost use Rattle.std.specs.Prelude.{◌≡◌, ◌≢◌, ◌≤◌, map, length, IsOk, IfOk, true};
 ghost use Rattle.std.specs.List.{AllByRecursion, list_any};
 ghost use Rattle.query_script.specs.Ordered.{IsOrdered};
+ghost use Rattle.query_chain.specs.Tasks.{outcome};
 ghost use Rattle.json_lines.specs.Pages.{refused_text};
 ghost use Rattle.extract_main.specs.Answers.{answer_of};
 ghost use Rattle.extract_main.specs.OnePage.{IsDocumentLine, IsTextLine};
-ghost use Rattle.extract_main.specs.PageLines.{most_page, too_long, AreValues, is_refused, IsPageLine};
+ghost use Rattle.extract_main.specs.PageLines.{most_page, too_long, is_refused, IsPageLine};
+ghost use Rattle.extract_main.specs.Tasks.{AreTasks};
 
 use crate::answers::Line;
 use arena_tree::ArenaGrow;
@@ -14,7 +16,7 @@ use doc_model::Axes;
 use html_reader::read_html;
 use io_edges::PAGE_LIMIT;
 use json_lines::{page_line, refused_line};
-use query_chain::run_field;
+use query_chain::{Ready, prepare, run_ready_at};
 use query_script::{Field, FieldValue};
 use std::alloc::Global;
 use step_index::Indexed;
@@ -49,18 +51,29 @@ pub fn long_answer(alloc: Global, name: &str) -> Result<Line, NoMemory>
     )
 }
 
-/// The fields' values on a document, in order.
+/// The queries of each field read and its patterns built, once for all pages of a run.
+pub fn prepare_fields(alloc: Global, fields: &[Field]) -> Result<Vec<Ready>, NoMemory>
+    requires { AllByRecursion IsOrdered fields.now }
+    ensures { IfOk result (λ ready. AreTasks fields.now ready.items) }
+{
+    let mut ready = Vec::new(alloc);
+    for field in fields {
+        ready.push(prepare(alloc, field)?)?;
+    }
+    Ok(ready)
+}
+
+/// The values on a document of the fields that are ready, in order.
 fn values_of<S: Axes>(
     alloc: Global,
     source: &S,
-    fields: &[Field],
+    ready: &[Ready],
 ) -> Result<Seq<FieldValue>, NoMemory>
-    requires { AllByRecursion IsOrdered fields.now }
-    ensures { IfOk result (λ values. AreValues (S.document source.now) fields.now values) }
+    ensures { IfOk result (λ values. values ≡ map (outcome (S.document source.now) 0) ready.now) }
 {
     let mut values = Vec::new(alloc);
-    for field in fields {
-        values.push(run_field(alloc, source, field)?)?;
+    for one in ready {
+        values.push(run_ready_at(alloc, source, one, 0)?)?;
     }
     Ok(Seq::from_vec(values))
 }
@@ -86,13 +99,14 @@ fn holds_refusal(values: &[FieldValue]) -> bool
 fn document_answer<S: Axes>(
     alloc: Global,
     fields: &Seq<Field>,
+    ready: &[Ready],
     name: &str,
     source: &S,
 ) -> Result<Line, NoMemory>
-    requires { AllByRecursion IsOrdered fields.now }
+    requires { AreTasks fields.now ready.now }
     ensures { IfOk result (λ line. IsDocumentLine fields.now name.now (S.document source.now) (answer_of line)) }
 {
-    let values = values_of(alloc, source, fields.as_slice())?;
+    let values = values_of(alloc, source, ready)?;
     let refused = holds_refusal(values.as_slice());
     let text = page_line(alloc, name, fields, &values)?;
     Ok(Line { text, refused })
@@ -100,8 +114,14 @@ fn document_answer<S: Axes>(
 
 /// The line of a page within the limit whose bytes decode to the text. Its document lies in an arena of its own, with
 /// tables over it.
-fn text_answer(alloc: Global, fields: &Seq<Field>, name: &str, text: &str) -> Result<Line, NoMemory>
-    requires ordered { AllByRecursion IsOrdered fields.now }
+fn text_answer(
+    alloc: Global,
+    fields: &Seq<Field>,
+    ready: &[Ready],
+    name: &str,
+    text: &str,
+) -> Result<Line, NoMemory>
+    requires ready { AreTasks fields.now ready.now }
     requires short { length text.now ≤ most_page }
     ensures { IfOk result (λ line. IsTextLine fields.now name.now text.now (answer_of line)) }
 {
@@ -109,7 +129,7 @@ fn text_answer(alloc: Global, fields: &Seq<Field>, name: &str, text: &str) -> Re
     match read_html(alloc, text, ArenaGrow::new(&arena)) {
         Ok(tree) => {
             let source = Indexed::new(alloc, tree)?;
-            document_answer(alloc, fields, name, &source)
+            document_answer(alloc, fields, ready, name, &source)
         }
         Err(fault) => refused_answer(alloc, name, fault),
     }
@@ -119,17 +139,18 @@ fn text_answer(alloc: Global, fields: &Seq<Field>, name: &str, text: &str) -> Re
 pub fn page_answer(
     alloc: Global,
     fields: &Seq<Field>,
+    ready: &[Ready],
     name: &str,
     bytes: &[u8],
 ) -> Result<Line, NoMemory>
-    requires { AllByRecursion IsOrdered fields.now }
+    requires { AreTasks fields.now ready.now }
     ensures { IfOk result (λ line. IsPageLine fields.now name.now bytes.now (answer_of line)) }
 {
     if bytes.len() > PAGE_LIMIT {
         return long_answer(alloc, name);
     }
     match decode_page(alloc, bytes) {
-        Ok(text) => text_answer(alloc, fields, name, text.as_str()),
+        Ok(text) => text_answer(alloc, fields, ready, name, text.as_str()),
         Err(fault) => refused_answer(alloc, name, fault),
     }
 }

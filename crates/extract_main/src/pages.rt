@@ -10,12 +10,14 @@ ghost use Rattle.extract_main.specs.Ending.{Ended};
 ghost use Rattle.extract_main.specs.OnePage.{TakesLine, TakesLinePart};
 ghost use Rattle.extract_main.specs.PageLines.{IsPageLine, MakesLines};
 ghost use Rattle.extract_main.specs.Plans.{over};
+ghost use Rattle.extract_main.specs.Tasks.{AreTasks};
 
 use crate::answers::Line;
-use crate::page_lines::{long_answer, page_answer};
+use crate::page_lines::{long_answer, page_answer, prepare_fields};
 use crate::status::Status;
 use crate::writing::write_line;
 use io_edges::{Pages, ReadEnd, Sink, read_page};
+use query_chain::Ready;
 use query_script::Field;
 use std::alloc::Global;
 use text_base::Seq;
@@ -24,10 +26,11 @@ use text_base::Seq;
 fn read_line<P: Pages>(
     alloc: Global,
     fields: &Seq<Field>,
+    ready: &[Ready],
     name: &str,
     pages: &mut P,
 ) -> Result<Line, Status>
-    requires { AllByRecursion IsOrdered fields.now }
+    requires { AreTasks fields.now ready.now }
     ensures told { P.told pages.new ≡ P.told pages.old }
     ensures begun { Grows (P.begun pages.old) 1 (P.begun pages.new) }
     ensures never_falls { P.faults pages.old ≤ P.faults pages.new }
@@ -37,7 +40,7 @@ fn read_line<P: Pages>(
     ensures other { (result ≢ Err Status.Done) × (result ≢ Err Status.Refused) × (result ≢ Err Status.Usage) × (result ≢ Err Status.WriteFault) }
 {
     let made = match read_page(alloc, pages, name) {
-        Ok(bytes) => page_answer(alloc, fields, name, bytes.as_slice()),
+        Ok(bytes) => page_answer(alloc, fields, ready, name, bytes.as_slice()),
         Err(ReadEnd::Fault) => return Err(Status::ReadFault),
         Err(ReadEnd::TooLong) => long_answer(alloc, name),
         Err(ReadEnd::Memory) => return Err(Status::Memory),
@@ -52,11 +55,12 @@ fn read_line<P: Pages>(
 fn write_page<P: Pages, W: Sink>(
     alloc: Global,
     fields: &Seq<Field>,
+    ready: &[Ready],
     name: &str,
     pages: &mut P,
     sink: &mut W,
 ) -> Result<bool, Status>
-    requires { AllByRecursion IsOrdered fields.now }
+    requires { AreTasks fields.now ready.now }
     ensures told { P.told pages.new ≡ P.told pages.old }
     ensures begun { Grows (P.begun pages.old) 1 (P.begun pages.new) }
     ensures page_faults { P.faults pages.old ≤ P.faults pages.new }
@@ -70,7 +74,7 @@ fn write_page<P: Pages, W: Sink>(
     ensures write_fault { IsErrOf result Status.WriteFault → Rose (W.faults sink.old) (W.faults sink.new) }
     ensures other { (result ≢ Err Status.Done) × (result ≢ Err Status.Refused) × (result ≢ Err Status.Usage) }
 {
-    match read_line(alloc, fields, name, pages) {
+    match read_line(alloc, fields, ready, name, pages) {
         Ok(line) => match write_line(line, sink) {
             Ok(refused) => Ok(refused),
             Err(status) => Err(status),
@@ -79,7 +83,43 @@ fn write_page<P: Pages, W: Sink>(
     }
 }
 
-/// Reads each page and writes its line.
+/// Reads each page and writes its line, by fields that are ready.
+fn write_each<P: Pages, W: Sink>(
+    alloc: Global,
+    fields: &Seq<Field>,
+    ready: &[Ready],
+    names: &[String],
+    pages: &mut P,
+    sink: &mut W,
+) -> Status
+    requires { AreTasks fields.now ready.now }
+    ensures told { P.told pages.new ≡ P.told pages.old }
+    ensures page_faults { P.faults pages.old ≤ P.faults pages.new }
+    ensures sink_faults { W.faults sink.old ≤ W.faults sink.new }
+    ensures pages_uncounted { result ≢ Status.ReadFault → P.faults pages.new ≡ P.faults pages.old }
+    ensures sink_uncounted { result ≢ Status.WriteFault → W.faults sink.new ≡ W.faults sink.old }
+    ensures idle { names.now ≡ [] → pages.new ≡ pages.old }
+    ensures ended { (line : List ℕ → List ℕ → Answer) → MakesLines fields.now line → Ended (over line (map string_bytes names.now)) (P.told pages.old)
+        (P.begun pages.old) (P.begun pages.new) (P.faults pages.old) (P.faults pages.new)
+        (W.taken sink.old) (W.taken sink.new) (W.faults sink.old) (W.faults sink.new) result }
+    ensures write_fault { result ≡ Status.WriteFault → Rose (W.faults sink.old) (W.faults sink.new) }
+    ensures other { result ≢ Status.Usage }
+{
+    let mut refused = false;
+    for name in names {
+        match write_page(alloc, fields, ready, name.as_str(), pages, sink) {
+            Ok(one) => refused = refused || one,
+            Err(status) => return status,
+        }
+    }
+    if refused {
+        Status::Refused
+    } else {
+        Status::Done
+    }
+}
+
+/// Makes the fields ready, once for all pages, and then reads each page and writes its line.
 pub fn write_pages<P: Pages, W: Sink>(
     alloc: Global,
     fields: &Seq<Field>,
@@ -100,16 +140,8 @@ pub fn write_pages<P: Pages, W: Sink>(
     ensures write_fault { result ≡ Status.WriteFault → Rose (W.faults sink.old) (W.faults sink.new) }
     ensures other { result ≢ Status.Usage }
 {
-    let mut refused = false;
-    for name in names {
-        match write_page(alloc, fields, name.as_str(), pages, sink) {
-            Ok(one) => refused = refused || one,
-            Err(status) => return status,
-        }
-    }
-    if refused {
-        Status::Refused
-    } else {
-        Status::Done
+    match prepare_fields(alloc, fields.as_slice()) {
+        Ok(ready) => write_each(alloc, fields, ready.as_slice(), names, pages, sink),
+        Err(_) => Status::Memory,
     }
 }

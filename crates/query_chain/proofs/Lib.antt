@@ -10,5 +10,6 @@ pub mod Selecting
 pub mod Shapes
 pub mod Starts
 pub mod Stepping
+pub mod Tasks
 pub mod Values
 pub mod Words

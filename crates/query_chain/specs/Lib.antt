@@ -6,4 +6,5 @@ pub mod Laws
 pub mod Patterns
 pub mod Readiness
 pub mod Steps
+pub mod Tasks
 pub mod Values

@@ -12,8 +12,8 @@ use Rattle.query_chain.specs.declared.items.Items.{Items}
 use Rattle.query_chain.specs.declared.items.Items.TheVariants.{Rows, Texts}
 use Rattle.query_chain.specs.declared.limits.Stop.{Stop}
 use Rattle.query_chain.specs.declared.limits.Stop.TheVariants.{Selection, Output, Memory}
-use Rattle.query_chain.specs.declared.ready.Ready.{Ready}
-use Rattle.query_chain.specs.declared.ready.Ready.TheVariants as ready
+use Rattle.query_chain.specs.declared.ready_steps.ReadyStep.{ReadyStep}
+use Rattle.query_chain.specs.declared.ready_steps.ReadyStep.TheVariants as ready
 use Rattle.query_chain.specs.Items.{Item, node, text}
 use Rattle.query_chain.specs.Chains.{Action, select, search}
 use Rattle.query_chain.specs.Built.{IsBuilt}
@@ -31,11 +31,11 @@ AreIn doc (Rows rows) = AreRowsOf doc rows.items
 AreIn doc (Texts texts) = Unit {0}
 
 -- what a prepared step does
-abbrev pub action_of : Ready → Action
+abbrev pub action_of : ReadyStep → Action
 action_of (ready.Query typed) = select (expression typed)
 action_of (ready.Match regex) = search (chars (regex_source regex))
 
-abbrev pub IsUsable : Ready → Type 0
+abbrev pub IsUsable : ReadyStep → Type 0
 IsUsable (ready.Query typed) = Unit {0}
 IsUsable (ready.Match regex) = IsBuilt (chars (regex_source regex)) regex
 

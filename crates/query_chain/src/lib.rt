@@ -7,13 +7,15 @@ mod laws;
 mod limits;
 mod pattern;
 mod ready;
+mod ready_steps;
 mod run;
 mod search;
 mod select;
 mod steps;
 
 pub use laws::{a_value, one_value};
-pub use run::run_field;
+pub use ready::{Ready, prepare};
+pub use run::{run_field, run_ready_at};
 
 #[cfg(test)]
 mod tests;

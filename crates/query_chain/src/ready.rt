@@ -1,46 +1,64 @@
-//! The steps of a field, read and built.
-ghost use Rattle.std.specs.Prelude.{◌≡◌, true, All, IfOk, IsErrOf};
-ghost use Rattle.std.specs.List.{list_any};
-ghost use Rattle.query_chain.specs.Chains.{is_refused};
-ghost use Rattle.query_chain.specs.Readiness.{IsReady, AreReady, IsReadable};
+//! A field that is ready to run.
+ghost use Rattle.std.specs.Prelude.{IfOk};
+ghost use Rattle.query_script.specs.Ordered.{IsOrdered};
+ghost use Rattle.query_chain.specs.Tasks.{IsTask};
 
-use crate::pattern::{BuildFault, build};
-use query_script::ChainStep;
-use regex::Regex;
+use crate::pattern::BuildFault;
+use crate::ready_steps::{ReadyStep, prepare_all};
+use query_script::{Chain, Field, Reason, Take};
 use std::alloc::Global;
-use xpath_parser::{Typed, parse_xpath};
+use std::marker::Model;
+use text_base::NoMemory;
 
-/// A step that was read or built.
+/// What is left to do of a chain.
 #[derive(Drop)]
-pub enum Ready {
-    Query(Typed),
-    Match(Regex),
+pub(crate) enum ReadyChain {
+    /// Nothing: the field is refused.
+    Refused(Reason),
+    /// The steps, and which texts are taken at the end.
+    Steps(Vec<ReadyStep>, Take),
 }
 
-/// Reads the step's query, or builds its pattern.
-fn prepare(alloc: Global, step: &ChainStep) -> Result<Ready, BuildFault>
-    requires { IsReadable step.now }
-    ensures ready { IfOk result (IsReady step.now) }
-    ensures refused { IsErrOf result BuildFault.Pattern → is_refused step.now ≡ true }
+/// A field whose queries are read and whose patterns are built: contracts see what it does.
+#[derive(Drop)]
+pub struct Ready {
+    pub(crate) chain: ReadyChain,
+}
+
+impl Model for Ready {
+    ghost use Rattle.query_chain.specs.Tasks.{Task};
+
+    ghost Value = { Task };
+
+    ghost use Rattle.std.specs.Coded.{codes};
+    ghost use Rattle.xpath_parser.specs.contracts.expression.Expr as e;
+
+    ghost coded = { Prim.hlevel (codes, e.the_row.coded) };
+
+    ghost use Rattle.query_chain.specs.Readiness.{task_of, IsSound};
+
+    ghost view = { λ r. task_of r.chain };
+
+    ghost invariant = { λ r. IsSound r.chain };
+}
+
+/// Reads the queries of a field and builds its patterns, once for all the rows and documents on which it is to run.
+pub fn prepare(alloc: Global, field: &Field) -> Result<Ready, NoMemory>
+    requires { IsOrdered field.now }
+    ensures { IfOk result (IsTask field.now) }
 {
-    match step {
-        ChainStep::Query(text) => match parse_xpath(alloc, text.as_str()) {
-            Ok(query) => Ok(Ready::Query(query)),
-            Err(_) => Err(BuildFault::Memory),
+    match &field.chain {
+        Chain::Refused(reason) => Ok(Ready {
+            chain: ReadyChain::Refused(*reason),
+        }),
+        Chain::Steps(steps, end) => match prepare_all(alloc, steps.as_slice()) {
+            Ok(ready) => Ok(Ready {
+                chain: ReadyChain::Steps(ready, *end),
+            }),
+            Err(BuildFault::Pattern) => Ok(Ready {
+                chain: ReadyChain::Refused(Reason::Pattern),
+            }),
+            Err(BuildFault::Memory) => Err(NoMemory),
         },
-        ChainStep::Match(pattern) => Ok(Ready::Match(build(alloc, pattern.as_str())?)),
     }
-}
-
-/// Reads and builds all steps, from left to right.
-pub fn prepare_all(alloc: Global, steps: &[ChainStep]) -> Result<Vec<Ready>, BuildFault>
-    requires { All IsReadable steps.now }
-    ensures ready { IfOk result (λ v. AreReady steps.now v.items) }
-    ensures refused { IsErrOf result BuildFault.Pattern → list_any is_refused steps.now ≡ true }
-{
-    let mut ready = Vec::new(alloc);
-    for step in steps {
-        ready.push(prepare(alloc, step)?)?;
-    }
-    Ok(ready)
 }

@@ -1,15 +1,15 @@
 //! The value of a field.
-ghost use Rattle.std.specs.Prelude.{◌<◌, true, length, IfOk};
-ghost use Rattle.query_script.specs.Ordered.{IsOrdered, AreOrdered};
-ghost use Rattle.query_script.specs.declared.script.Chain.TheVariants.{Steps};
-ghost use Rattle.query_chain.specs.Chains.{IsValue, IsChainValue};
+ghost use Rattle.std.specs.Prelude.{◌≡◌, ◌<◌, length, IfOk};
+ghost use Rattle.query_script.specs.Ordered.{IsOrdered};
+ghost use Rattle.query_script.specs.declared.script.Field.{Field};
+ghost use Rattle.query_chain.specs.Chains.{IsValue};
+ghost use Rattle.query_chain.specs.Tasks.{IsTask, IsValueAt, outcome};
 
 use crate::limits::{Limits, Stop};
-use crate::pattern::BuildFault;
-use crate::ready::prepare_all;
+use crate::ready::{Ready, ReadyChain, prepare};
 use crate::steps::run_steps;
 use doc_model::Axes;
-use query_script::{Chain, ChainStep, Field, FieldValue, Reason, Take};
+use query_script::{Field, FieldValue, Reason};
 use std::alloc::Global;
 use text_base::NoMemory;
 
@@ -19,30 +19,35 @@ const FIELD_LIMITS: Limits = Limits {
     bytes: 8_388_608,
 };
 
-/// The value of steps from the row x on.
-fn run_chain<S: Axes>(
+/// The value of a ready field on a document, from a row on: it is that of each field for which this is ready.
+///
+/// It is a function of what the field does, of the document and of the row, so one that was prepared once serves for all
+/// rows and documents.
+pub fn run_ready_at<S: Axes>(
     alloc: Global,
     source: &S,
-    steps: &[ChainStep],
-    end: Take,
-    x: u32,
-    limits: Limits,
+    ready: &Ready,
+    node: u32,
 ) -> Result<FieldValue, NoMemory>
-    requires ordered { AreOrdered true steps.now }
-    requires within { x < length (S.document source.now) }
-    requires some { 0 < limits.items }
-    ensures { IfOk result (IsChainValue limits (S.document source.now) x (Steps steps.now end)) }
+    requires { node < length (S.document source.now) }
+    ensures value { IfOk result (λ v. v ≡ outcome (S.document source.now) node ready.now) }
+    ensures of_field { IfOk result (λ v. (field : Field) → IsTask field ready.now → IsValueAt (S.document source.now) node field v) }
 {
-    let ready = match prepare_all(alloc, steps) {
-        Ok(ready) => ready,
-        Err(BuildFault::Pattern) => return Ok(FieldValue::Refused(Reason::Pattern)),
-        Err(BuildFault::Memory) => return Err(NoMemory),
-    };
-    match run_steps(alloc, source, ready.as_slice(), end, x, limits) {
-        Ok(value) => Ok(value),
-        Err(Stop::Selection) => Ok(FieldValue::Refused(Reason::Selection)),
-        Err(Stop::Output) => Ok(FieldValue::Refused(Reason::Output)),
-        Err(Stop::Memory) => Err(NoMemory),
+    match &ready.chain {
+        ReadyChain::Refused(reason) => Ok(FieldValue::Refused(*reason)),
+        ReadyChain::Steps(steps, end) => match run_steps(
+            alloc,
+            source,
+            steps.as_slice(),
+            *end,
+            node,
+            FIELD_LIMITS,
+        ) {
+            Ok(value) => Ok(value),
+            Err(Stop::Selection) => Ok(FieldValue::Refused(Reason::Selection)),
+            Err(Stop::Output) => Ok(FieldValue::Refused(Reason::Output)),
+            Err(Stop::Memory) => Err(NoMemory),
+        },
     }
 }
 
@@ -58,15 +63,6 @@ pub fn run_field<S: Axes>(alloc: Global, source: &S, field: &Field) -> Result<Fi
     requires { IsOrdered field.now }
     ensures { IfOk result (λ v. IsValue (S.document source.now) field.now v) }
 {
-    match &field.chain {
-        Chain::Refused(reason) => Ok(FieldValue::Refused(*reason)),
-        Chain::Steps(steps, end) => run_chain(
-            alloc,
-            source,
-            steps.as_slice(),
-            *end,
-            0,
-            FIELD_LIMITS,
-        ),
-    }
+    let ready = prepare(alloc, field)?;
+    run_ready_at(alloc, source, &ready, 0)
 }

@@ -12,7 +12,7 @@ ghost use Rattle.query_chain.specs.Steps.{items_of, AreRowsOf, AreIn, action_of,
 
 use crate::items::{Items, texts_of};
 use crate::limits::{Limits, Stop};
-use crate::ready::Ready;
+use crate::ready_steps::ReadyStep;
 use crate::search::search_texts;
 use crate::select::{select_rows, select_texts};
 use doc_model::Axes;
@@ -104,7 +104,7 @@ fn search<S: Axes>(
 fn give<S: Axes>(
     alloc: Global,
     source: &S,
-    step: &Ready,
+    step: &ReadyStep,
     items: Items,
     limits: Limits,
 ) -> Result<Items, Stop>
@@ -118,8 +118,8 @@ fn give<S: Axes>(
     ensures stop { IfErr result (λ s. IsFirst s (step_passes limits (S.document source.now) (action_of step.now) (items_of items))) }
 {
     match step {
-        Ready::Query(query) => select_items(alloc, source, query, items, limits),
-        Ready::Match(regex) => search(alloc, source, regex, items, limits),
+        ReadyStep::Query(query) => select_items(alloc, source, query, items, limits),
+        ReadyStep::Match(regex) => search(alloc, source, regex, items, limits),
     }
 }
 
@@ -127,7 +127,7 @@ fn give<S: Axes>(
 fn give_all<S: Axes>(
     alloc: Global,
     source: &S,
-    steps: &[Ready],
+    steps: &[ReadyStep],
     x: u32,
     limits: Limits,
 ) -> Result<Items, Stop>
@@ -182,7 +182,7 @@ fn value_of(texts: Vec<Txt>, end: Take) -> FieldValue
 pub fn run_steps<S: Axes>(
     alloc: Global,
     source: &S,
-    steps: &[Ready],
+    steps: &[ReadyStep],
     end: Take,
     x: u32,
     limits: Limits,

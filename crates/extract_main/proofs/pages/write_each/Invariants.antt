@@ -4,7 +4,7 @@ use Rattle.io_edges.specs.Counts.{Grows}
 use Rattle.extract_main.specs.Answers.{Answer}
 use Rattle.extract_main.specs.PageLines.{MakesLines}
 use Rattle.extract_main.proofs.Walk.{SoFar}
-use Rattle.extract_main.proofs.pages.write_pages.Given as goal
+use Rattle.extract_main.proofs.pages.write_each.Given as goal
 
 abbrev pub invariant-loop-name : goal.invariant-loop-name
 invariant-loop-name g l = record {

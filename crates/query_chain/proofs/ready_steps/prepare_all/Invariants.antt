@@ -1,6 +1,6 @@
 use Rattle.std.proofs.Common.{take}
 use Rattle.query_chain.specs.Readiness.{AreReady}
-use Rattle.query_chain.proofs.ready.prepare_all.Given as goal
+use Rattle.query_chain.proofs.ready_steps.prepare_all.Given as goal
 
 abbrev pub invariant-loop-step : goal.invariant-loop-step
 invariant-loop-step l = AreReady (take l.step-index l.steps) l.ready.items
