@@ -1,5 +1,5 @@
 //! The axes of a document.
-ghost use Rattle.std.specs.Prelude.{◌≡◌, ◌<◌, ℕ, [], length, OnOk, OnErr};
+ghost use Rattle.std.specs.Prelude.{◌≡◌, ◌<◌, ℕ, [], length, nat_lt, slice_get, OnOk, OnErr};
 ghost use Rattle.doc_model.specs.Axes.{axis_list};
 ghost use Rattle.doc_model.specs.RowLists.{IsFront};
 
@@ -28,4 +28,14 @@ pub trait Axes: Tree {
     fn axis_count(&self, x: u32, axis: Axis, test: &NodeTest) -> u32
         requires { x < length (Self.document self.now) }
         ensures { result ≡ length (axis_list (Self.document self.now) x axis test.now) };
+
+    /// The first of these rows, the nearest one, with no list of the others. It takes no memory.
+    fn axis_first(&self, x: u32, axis: Axis, test: &NodeTest) -> Option<u32>
+        requires { x < length (Self.document self.now) }
+        ensures { result ≡ slice_get (axis_list (Self.document self.now) x axis test.now) 0 };
+
+    /// Whether there is one of these rows. It takes no memory.
+    fn axis_any(&self, x: u32, axis: Axis, test: &NodeTest) -> bool
+        requires { x < length (Self.document self.now) }
+        ensures { result ≡ nat_lt 0 (length (axis_list (Self.document self.now) x axis test.now)) };
 }

@@ -1,11 +1,14 @@
 //! Axes that are walked.
-ghost use Rattle.std.specs.Prelude.{◌≡◌, ◌<◌, ℕ, [], length, OnOk, OnErr};
+ghost use Rattle.std.specs.Prelude.{◌≡◌, ◌<◌, ℕ, [], length, nat_lt, slice_get, OnOk, OnErr};
 ghost use Rattle.doc_model.specs.Axes.{axis_list};
 ghost use Rattle.doc_model.specs.RowLists.{IsFront};
 
 use crate::axes::Axes;
 use crate::tree::Tree;
-use crate::walks::{across_count, across_into, is_reverse, is_upward, up_count, up_into};
+use crate::walks::{
+    across_count, across_first, across_into, across_last, is_reverse, is_upward, up_count,
+    up_first, up_into,
+};
 use crate::{Axis, Kind, NodeTest};
 use text_base::NoMemory;
 
@@ -44,6 +47,31 @@ pub fn walk_count<T: Tree>(tree: &T, x: u32, axis: Axis, test: &NodeTest) -> u32
         return up_count(tree, x, axis, test);
     }
     across_count(tree, x, axis, test)
+}
+
+/// The first of these rows. It takes no memory. Forwards and from row to parent the walk ends at it.
+pub fn walk_first<T: Tree>(tree: &T, x: u32, axis: Axis, test: &NodeTest) -> Option<u32>
+    requires { x < length (T.document tree.now) }
+    ensures { result ≡ slice_get (axis_list (T.document tree.now) x axis test.now) 0 }
+{
+    if is_upward(axis) {
+        return up_first(tree, x, axis, test);
+    }
+    if is_reverse(axis) {
+        return across_last(tree, x, axis, test);
+    }
+    across_first(tree, x, axis, test)
+}
+
+/// Whether there is one. It takes no memory, and the walk ends at the first that it comes to.
+pub fn walk_any<T: Tree>(tree: &T, x: u32, axis: Axis, test: &NodeTest) -> bool
+    requires { x < length (T.document tree.now) }
+    ensures { result ≡ nat_lt 0 (length (axis_list (T.document tree.now) x axis test.now)) }
+{
+    if is_upward(axis) {
+        return up_first(tree, x, axis, test).is_some();
+    }
+    across_first(tree, x, axis, test).is_some()
 }
 
 /// A document whose axes are walked, row by row, over what may be on the axis.
@@ -106,5 +134,13 @@ impl<T: Tree> Axes for Plain<T> {
 
     fn axis_count(&self, x: u32, axis: Axis, test: &NodeTest) -> u32 {
         walk_count(&self.tree, x, axis, test)
+    }
+
+    fn axis_first(&self, x: u32, axis: Axis, test: &NodeTest) -> Option<u32> {
+        walk_first(&self.tree, x, axis, test)
+    }
+
+    fn axis_any(&self, x: u32, axis: Axis, test: &NodeTest) -> bool {
+        walk_any(&self.tree, x, axis, test)
     }
 }

@@ -1,5 +1,5 @@
 //! Walking over the rows that may be on an axis.
-ghost use Rattle.std.specs.Prelude.{◌≡◌, ◌<◌, ◌≤◌, ◌+◌, ◌++◌, ◌∷◌, ◌&&◌, ℕ, [], true, false, if◌then◌else◌, length, filter, reverse, IsTrue, OnOk, OnErr};
+ghost use Rattle.std.specs.Prelude.{◌≡◌, ◌<◌, ◌≤◌, ◌+◌, ◌++◌, ◌∷◌, ◌&&◌, ℕ, [], Some, true, false, if◌then◌else◌, length, filter, reverse, slice_get, IsTrue, OnOk, OnErr};
 ghost use Rattle.doc_model.specs.Document.{row, rows, is_attribute, is_element, is_text, is_attribute_kind, is_element_kind, is_text_kind, below};
 ghost use Rattle.doc_model.specs.Axes.{on_axis, passes, is_principal, is_comment_kind};
 ghost use Rattle.doc_model.specs.Axes as spec;
@@ -275,6 +275,13 @@ fn push_if(out: &mut Vec<u32>, y: u32, wanted: bool) -> Result<(), NoMemory>
     Ok(())
 }
 
+/// The row, if it is wanted, and else the one before.
+fn later(last: Option<u32>, y: u32, wanted: bool) -> Option<u32>
+    ensures { result ≡ (if wanted then Some y else last) }
+{
+    if wanted { Some(y) } else { last }
+}
+
 /// 1 where the row is wanted.
 fn one_if(wanted: bool) -> u32
     ensures { result ≡ (if wanted then 1 else 0) }
@@ -331,6 +338,39 @@ pub fn across_count<T: Tree>(tree: &T, x: u32, axis: Axis, test: &NodeTest) -> u
     count
 }
 
+/// The first of these rows. The walk ends at it.
+pub fn across_first<T: Tree>(tree: &T, x: u32, axis: Axis, test: &NodeTest) -> Option<u32>
+    requires row { x < length (T.document tree.now) }
+    requires across { walks.is_upward axis ≡ false }
+    ensures { result ≡ slice_get (filter (chosen (T.document tree.now) axis x test.now) (rows (T.document tree.now))) 0 }
+{
+    let walk = walk_of(tree, x, axis);
+    let mut y = walk.from;
+    while y < walk.to {
+        if is_wanted(tree, x, axis, test, y) {
+            return Some(y);
+        }
+        y = next(tree, walk.hops, y);
+    }
+    None
+}
+
+/// The last of these rows.
+pub fn across_last<T: Tree>(tree: &T, x: u32, axis: Axis, test: &NodeTest) -> Option<u32>
+    requires row { x < length (T.document tree.now) }
+    requires across { walks.is_upward axis ≡ false }
+    ensures { result ≡ slice_get (reverse (filter (chosen (T.document tree.now) axis x test.now) (rows (T.document tree.now)))) 0 }
+{
+    let walk = walk_of(tree, x, axis);
+    let mut y = walk.from;
+    let mut last = None;
+    while y < walk.to {
+        last = later(last, y, is_wanted(tree, x, axis, test, y));
+        y = next(tree, walk.hops, y);
+    }
+    last
+}
+
 /// Whether the row itself is on an axis that is walked from row to parent.
 fn has_self(axis: Axis) -> bool
     ensures { result ≡ walks.has_self axis }
@@ -384,4 +424,23 @@ pub fn up_count<T: Tree>(tree: &T, x: u32, axis: Axis, test: &NodeTest) -> u32
         count += one_if(passes(tree, axis, test, y));
     }
     count
+}
+
+/// The first of these rows, against document order. The walk ends at it.
+pub fn up_first<T: Tree>(tree: &T, x: u32, axis: Axis, test: &NodeTest) -> Option<u32>
+    requires row { x < length (T.document tree.now) }
+    requires up { walks.is_upward axis ≡ true }
+    ensures { result ≡ slice_get (reverse (filter (chosen (T.document tree.now) axis x test.now) (rows (T.document tree.now)))) 0 }
+{
+    if is_own(tree, x, axis, test) {
+        return Some(x);
+    }
+    let mut y = x;
+    while y > 0 {
+        y = tree.parent(y);
+        if passes(tree, axis, test, y) {
+            return Some(y);
+        }
+    }
+    None
 }

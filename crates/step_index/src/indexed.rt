@@ -1,5 +1,5 @@
 //! Axes that are looked up.
-ghost use Rattle.std.specs.Prelude.{◌≡◌, ◌<◌, ◌≤◌, ◌+◌, ◌-◌, ◌*◌, ◌^◌, ◌++◌, ℕ, [], ◌∷◌, true, if◌then◌else◌, length, slice_get, OnOk, OnErr, IfOk};
+ghost use Rattle.std.specs.Prelude.{◌≡◌, ◌<◌, ◌≤◌, ◌+◌, ◌-◌, ◌*◌, ◌^◌, ◌++◌, ℕ, [], ◌∷◌, true, if◌then◌else◌, length, nat_lt, slice_get, OnOk, OnErr, IfOk};
 ghost use Rattle.std.specs.List.{find};
 ghost use Rattle.std.specs.Str.{chars};
 ghost use Rattle.doc_model.specs.Document.{row, rows, is_element, is_element_kind};
@@ -16,7 +16,7 @@ use crate::children::Children;
 use crate::ids::Ids;
 use crate::names::Names;
 use crate::steps::Steps;
-use doc_model::{Axes, Axis, Kind, NodeTest, Tree, walk_count, walk_into};
+use doc_model::{Axes, Axis, Kind, NodeTest, Tree, walk_any, walk_count, walk_first, walk_into};
 use std::alloc::Global;
 use std::marker::Brand;
 use std::sync::ledger::{Blank, Ledger};
@@ -249,6 +249,23 @@ impl<T: Tree> Indexed<T> {
         }
         walk_count(&self.tree, x, axis, test)
     }
+
+    /// Whether a row is on the axis of `x` that has the name.
+    fn has_named(&self, x: u32, axis: Axis, test: &NodeTest, name: &str) -> bool
+        requires row { x < length (T.document self.now.tree) }
+        requires named { test.now ≡ NodeTest.Name (chars name.now) }
+        ensures { result ≡ nat_lt 0 (length (axis_list (T.document self.now.tree) x axis test.now)) }
+    {
+        if is_named(&self.tree, x, name) {
+            match axis {
+                Axis::PrecedingSibling | Axis::FollowingSibling => {
+                    return self.count_named(x, axis, test, name) > 0;
+                }
+                _ => {}
+            }
+        }
+        walk_any(&self.tree, x, axis, test)
+    }
 }
 
 /// Whether the row is an element.
@@ -313,5 +330,16 @@ impl<T: Tree> Axes for Indexed<T> {
             return self.count_named(x, axis, test, name.as_str());
         }
         walk_count(&self.tree, x, axis, test)
+    }
+
+    fn axis_first(&self, x: u32, axis: Axis, test: &NodeTest) -> Option<u32> {
+        walk_first(&self.tree, x, axis, test)
+    }
+
+    fn axis_any(&self, x: u32, axis: Axis, test: &NodeTest) -> bool {
+        if let NodeTest::Name(name) = test {
+            return self.has_named(x, axis, test, name.as_str());
+        }
+        walk_any(&self.tree, x, axis, test)
     }
 }

@@ -1,9 +1,9 @@
 -- Steps and positions that are counted.
 use Rattle.std.proofs.Common.{◌≡◌, refl, sym, ◌∙◌, ap, subst, ℕ, zero, suc, ◌+◌, ◌-◌, ◌<◌, ◌≤◌, Bool, true, false, ◌||◌, ◌&&◌, eqb, cond, List, [], ◌∷◌, ◌++◌, length, map, get_or, take, set, ◌^◌, arith, ℤ, pos, inl, inr, ◌⊎◌}
-use Rattle.std.specs.Prelude.{filter, reverse, ◌≢◌, unsigned_abs}
+use Rattle.std.specs.Prelude.{filter, reverse, ◌≢◌, unsigned_abs, nat_lt, Some, None, slice_get}
 use Rattle.std.specs.List.{range_with_len}
 use Rattle.std.specs.Ordering.{int_eq}
-use Rattle.std.proofs.lemmas.Bool.{cases_eq, eq-eqb, ne_eqb, eqb-true, both_ways, false_from_ne_true, le-leb}
+use Rattle.std.proofs.lemmas.Bool.{lt-ltb, cases_eq, eq-eqb, ne_eqb, eqb-true, both_ways, false_from_ne_true, le-leb}
 use Rattle.std.proofs.lemmas.Bool.Decides.{Decides-int_eq}
 use Rattle.std.proofs.lemmas.List.{length-reverse}
 use Rattle.doc_model.specs.Document.{Document, row, rows}
@@ -18,15 +18,19 @@ use Rattle.xpath_values.specs.Numbers.{whole, in_range}
 use Rattle.xpath_parser.specs.declared.expression.Func.{Func}
 use Rattle.xpath_parser.specs.declared.expression.Func.TheVariants as f
 use Rattle.xpath_parser.specs.declared.expression.Expr.{Expr}
-use Rattle.xpath_parser.specs.declared.expression.Expr.TheVariants.{Path}
+use Rattle.xpath_parser.specs.declared.expression.Expr.TheVariants.{Path, Number}
 use Rattle.xpath_parser.specs.declared.expression.Start.TheVariants.{Here}
 use Rattle.xpath_parser.specs.declared.expression.Step.{Step, out-Step}
-use Rattle.xpath_parser.specs.Conversions.{rows_of}
+use Rattle.xpath_parser.specs.Conversions.{rows_of, is_any}
 use Rattle.xpath_parser.specs.Functions.{Context, called, arg}
-use Rattle.xpath_parser.specs.Denote.{Meaning, denote, walk_of, start_of, rows_in, path, kept_from, keeps}
-use Rattle.xpath_parser.proofs.Equations.{at_path, at_here}
-use Rattle.xpath_eval.specs.Steps.{IsLoneStep}
+use Rattle.xpath_parser.specs.Denote.{Meaning, denote, walk_of, start_of, rows_in, path, kept, kept_from, keeps}
+use Rattle.xpath_parser.proofs.Equations.{at_path, at_here, at_step}
+use Rattle.xpath_parser.proofs.Equations.{at_number as at_number_eq}
+use Rattle.xpath_eval.specs.Steps.{IsLoneStep, IsLonePath, BeginsWithOne}
 use Rattle.xpath_eval.proofs.Covering.{plain_walk}
+use Rattle.std.proofs.lemmas.List.Elements.{All-nil, All-cons, All-head}
+use Rattle.xpath_eval.specs.Rows.{AllBelow}
+use Rattle.xpath_eval.proofs.Kept.{kept_from_same}
 use Rattle.xpath_eval.proofs.Lists.{has-reverse}
 
 or_none : (a : Bool) → (a || false) ≡ a
@@ -63,6 +67,16 @@ module _ (doc : Document) where
       ap (λ v. called doc f.Count (map (λ x. denote doc x c) v) c) l.path
       ∙ ap (λ v. Num (whole (pos (length (rows_of v))))) (lone_path s c)
       ∙ ap (λ k. Num (whole (pos k))) (lone_rows s c.row l.plain)
+
+  any_length : (xs : List ℕ) → is_any xs ≡ nat_lt 0 (length xs)
+  any_length [] = refl
+  any_length (x ∷ xs) = sym (lt-ltb 0 (suc (length xs)) (omega arith))
+
+  -- whether a step gives a row
+  pub held : (e : Expr) (s : Step) (c : Context) (at : ℕ) → IsLonePath e s → nat_lt 0 (length (axis_list doc c.row (out-Step s).axis (out-Step s).test)) ≡ keeps at (denote doc e c)
+  held e s c at l =
+      ap (nat_lt 0) (sym (lone_rows s c.row l.plain)) ∙ sym (any_length (rows_in doc (c.row ∷ []) (walk_of doc s)))
+      ∙ ap (keeps at) (sym (lone_path s c)) ∙ ap (λ v. keeps at (denote doc v c)) (sym l.path)
 
 -- ---- a number as a predicate
 
@@ -132,3 +146,46 @@ only_one z size i (x ∷ xs) h few is =
     ap (λ k. get_or (x ∷ xs) k 0 ∷ []) place
     ∙ sym (one_kept (pos (i + 1)) size 1 (i + 1) (x ∷ xs) (λ j. as_position true (pos (i + 1)) j (small_range (i + 1) (omega (arith, h, few))) ∙ same_position (i + 1) j) (omega arith) (omega (arith, h)))
     ∙ ap (λ v. kept_from (at_number v) size 1 (x ∷ xs)) (sym is)
+
+-- ---- the number 1 as the first predicate
+
+-- it keeps the first row, whatever the size is said to be
+one_first : (size : ℕ) (xs : List ℕ) → kept_from (at_number (pos 1)) size 1 xs ≡ take 1 xs
+one_first size [] = refl
+one_first size (x ∷ xs) =
+    let is : (j : ℕ) → keeps j (Num (whole (pos 1))) ≡ eqb j 1 = λ j. as_position true (pos 1) j (small_range 1 (omega arith)) ∙ same_position 1 j in
+    one_kept (pos 1) size 1 1 (x ∷ xs) is (omega arith) (let long : length (x ∷ xs) ≡ suc (length xs) = refl in omega (arith, long))
+
+one_twice : (n m : ℕ) (xs : List ℕ) → kept_from (at_number (pos 1)) n 1 (take 1 xs) ≡ kept_from (at_number (pos 1)) m 1 xs
+one_twice n m [] = refl
+one_twice n m (x ∷ xs) = one_first n (x ∷ []) ∙ sym (one_first m (x ∷ xs))
+
+-- so the other rows need not be there
+pub kept_first : (doc : Document) (ps : List Expr) (xs : List ℕ) → BeginsWithOne ps → kept (map (denote doc) ps) (take 1 xs) ≡ kept (map (denote doc) ps) xs
+kept_first doc ps xs b =
+    let number : (size : ℕ) (ys : List ℕ) → kept_from (denote doc (Number (pos 1))) size 1 ys ≡ kept_from (at_number (pos 1)) size 1 ys
+    = λ size ys. kept_from_same (denote doc (Number (pos 1))) (at_number (pos 1)) (λ c. at_number_of c) size 1 ys in
+    ap (λ v. kept (map (denote doc) v) (take 1 xs)) b.1
+    ∙ ap (kept (map (denote doc) b.0)) (number (length (take 1 xs)) (take 1 xs) ∙ one_twice (length (take 1 xs)) (length xs) xs ∙ sym (number (length xs) xs))
+    ∙ sym (ap (λ v. kept (map (denote doc) v) xs) b.1)
+  where
+    at_number_of : (c : Context) → denote doc (Number (pos 1)) c ≡ Num (whole (pos 1))
+    at_number_of c = at_number_eq doc (pos 1) c
+
+pub step_first : (doc : Document) (s : Step) (x : ℕ) (xs : List ℕ) → BeginsWithOne (out-Step s).predicates → xs ≡ take 1 (axis_list doc x (out-Step s).axis (out-Step s).test)
+    → kept (map (denote doc) (out-Step s).predicates) xs ≡ walk_of doc s x
+step_first doc s x xs b e =
+    ap (kept (map (denote doc) (out-Step s).predicates)) e ∙ kept_first doc (out-Step s).predicates (axis_list doc x (out-Step s).axis (out-Step s).test) b ∙ sym (at_step doc s x)
+
+-- the first row of a list
+pub take_first : (xs : List ℕ) (y : ℕ) → Some y ≡ slice_get xs 0 → y ∷ [] ≡ take 1 xs
+take_first [] y e = cc
+take_first (x ∷ xs) y e = cc
+
+pub take_none : (xs : List ℕ) → None ≡ slice_get xs 0 → [] ≡ take 1 xs
+take_none [] e = refl
+take_none (x ∷ xs) e = cc
+
+pub take_below : (n : ℕ) (xs : List ℕ) → AllBelow n xs → AllBelow n (take 1 xs)
+take_below n [] a = All-nil (λ y. y < n)
+take_below n (x ∷ xs) a = All-cons (λ y. y < n) x [] (All-head (λ y. y < n) x xs a) (All-nil (λ y. y < n))

@@ -6,7 +6,7 @@ ghost use Rattle.xpath_values.specs.declared.value.Value.TheVariants as value;
 ghost use Rattle.xpath_parser.specs.declared.expression.Func.TheVariants as f;
 ghost use Rattle.xpath_parser.specs.declared.expression.Step.{out-Step};
 ghost use Rattle.xpath_parser.specs.Denote as spec;
-ghost use Rattle.xpath_eval.specs.Steps.{IsLoneStep, IsOnlyStep};
+ghost use Rattle.xpath_eval.specs.Steps.{IsLonePath, IsLoneStep, IsOnlyStep};
 
 use crate::forms::put_if;
 use doc_model::Axes;
@@ -41,6 +41,16 @@ pub fn lone_step(es: &[Expr]) -> Option<&Step>
         return None;
     }
     match &es[0] {
+        Expr::Path(Start::Here, steps) => only_step(steps.as_slice()),
+        _ => None,
+    }
+}
+
+/// The same of one expression.
+pub fn lone_path(e: &Expr) -> Option<&Step>
+    ensures { IfSome result (λ s. IsLonePath e.now s.now) }
+{
+    match e {
         Expr::Path(Start::Here, steps) => only_step(steps.as_slice()),
         _ => None,
     }

@@ -9,12 +9,11 @@ ghost use Rattle.xpath_eval.specs.Places.{context};
 ghost use Rattle.xpath_eval.specs.Rows.{AreRows, AllBelow};
 
 use crate::axis_steps::axis_from;
-use crate::counts::{axis_number, is_count, lone_step, only};
-use crate::forms::{
-    applied, axis_rows, keeps, literal_number, nodes, put_if, rows_of_nodes, signed,
-};
+use crate::counts::{axis_number, is_count, lone_path, lone_step, only};
+use crate::forms::{applied, keeps, literal_number, nodes, put_if, rows_of_nodes, signed};
 use crate::ordering::{add, add_list, ordered};
 use crate::place::Place;
+use crate::step_rows::step_rows;
 use crate::tests_of_rows::are_tests;
 use doc_model::Axes;
 use std::alloc::Global;
@@ -256,7 +255,7 @@ fn walk<S: Axes>(alloc: Global, source: &S, x: u32, step: &Step) -> Result<Vec<u
     requires { x < length (S.document source.now) }
     ensures { IfOk result (λ rows. rows.items ≡ spec.walk_of (S.document source.now) step.now x) }
 {
-    let mut rows = axis_rows(alloc, source, x, step.axis, &step.test)?;
+    let mut rows = step_rows(alloc, source, x, step)?;
     filtered(alloc, source, &mut rows, step.predicates.as_slice())?;
     Ok(rows)
 }
@@ -332,7 +331,7 @@ fn tried<S: Axes>(
     while position < size {
         let row = rows[position as usize];
         position += 1;
-        let value = value_at(
+        let wanted = holds(
             alloc,
             source,
             predicate,
@@ -342,8 +341,26 @@ fn tried<S: Axes>(
                 size,
             },
         )?;
-        end = put_if(rows, end, row, keeps(position, &value));
+        end = put_if(rows, end, row, wanted);
     }
     rows.truncate(end);
     Ok(())
+}
+
+/// Whether a predicate holds at a place. Whether one step gives a row is asked with no list of its rows.
+#[cycle(evaluation)]
+fn holds<S: Axes>(
+    alloc: Global,
+    source: &S,
+    predicate: &Expr,
+    place: Place,
+) -> Result<bool, NoMemory>
+    requires { place.row < length (S.document source.now) }
+    ensures { IfOk result (λ b. b ≡ spec.keeps place.position (spec.denote (S.document source.now) predicate.now (context place))) }
+{
+    if let Some(step) = lone_path(predicate) {
+        return Ok(source.axis_any(place.row, step.axis, &step.test));
+    }
+    let value = value_at(alloc, source, predicate, place)?;
+    Ok(keeps(place.position, &value))
 }

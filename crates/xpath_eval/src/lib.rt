@@ -14,7 +14,8 @@
 //! - Predicates that are seen to ask about the row alone, with no `position()`, no `last()` and no number as their value,
 //!   are asked once for each row, after the rows of all context rows have been put together. Other predicates are asked
 //!   from each context row.
-//! - A number that is written out as a predicate is looked up. `count` of one step without predicates makes no list.
+//! - A number that is written out as a predicate is looked up; where it is 1 and the first predicate, the walk ends at the
+//!   first row, but on the preceding axes. Whether one step without predicates gives a row is asked with no list. `count` of one step without predicates makes no list.
 //! - `or` and `and` stop at the first operand that decides.
 #![tactic(auto)]
 
@@ -25,6 +26,7 @@ mod evaluation;
 mod forms;
 mod ordering;
 mod place;
+mod step_rows;
 mod tests_of_rows;
 mod top;
 

@@ -132,7 +132,7 @@ walk-returns g t c =
     let doc = g.S.Tree.document c.args.source.now in
     let s = c.args.step.now in
     c.in_ok-filtered.ensures ∙ ap (λ ps. spec.kept (map (spec.denote doc) ps) c.in_ok-rows.rows.items) c.as_slice.ensures
-    ∙ ap (spec.kept (map (spec.denote doc) (out-Step s).predicates)) c.in_ok-rows.ensures.rows ∙ sym (eqs.at_step doc s c.args.x)
+    ∙ c.in_ok-rows.ensures.kept
 
 pub value_at-number_of-requires : goal.value_at-number_of-requires
 value_at-number_of-requires g t c = lists.run_below 0 (length (g.S.Tree.document c.args.source.now)) (rows_of c.in_ok-value-in-Minus.value) c.in_ok-value-in-Minus.ensures.rows
@@ -291,3 +291,8 @@ value_at-returns-in-Some-clause-value g t c =
     ∙ sym (counting.counted doc c.in-Call.es c.in-Some.step.now at (subst (λ v. IsLoneStep v c.in-Some.step.now) c.as_slice-then-is_count.ensures c.in-Some.ensures))
     ∙ sym (ap (λ f. called doc f (map (λ x. spec.denote doc x at) c.in-Call.es) at) (c.is_count.ensures c.if-is_count.true))
     ∙ sym (eqs.at_call doc c.in-Call.func c.in-Call.es at) ∙ sym (ap (λ x. spec.denote doc x at) c.in-Call.is)
+
+pub holds-returns-in-Some : goal.holds-returns-in-Some
+holds-returns-in-Some g t c =
+    let doc = g.S.Tree.document c.args.source.now in
+    c.axis_any.ensures ∙ counting.held doc c.args.predicate.now c.in-Some.step.now (context c.args.place) c.args.place.position c.in-Some.ensures

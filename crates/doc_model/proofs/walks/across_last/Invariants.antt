@@ -1,0 +1,15 @@
+use Rattle.std.proofs.Common.{◌≡◌, ◌≤◌, ◌-◌, length}
+use Rattle.std.specs.Prelude.{filter, reverse, slice_get}
+use Rattle.std.specs.List.{range_with_len}
+use Rattle.doc_model.specs.Walks.{chosen}
+use Rattle.doc_model.proofs.walks.across_last.Given as goal
+
+abbrev pub invariant-loop-y : goal.invariant-loop-y
+invariant-loop-y g l = record {
+  from : l.walk.from ≤ l.y;
+  within : l.y ≤ length (g.T.Tree.document l.tree);
+  found : l.last ≡ slice_get (reverse (filter (chosen (g.T.Tree.document l.tree) l.axis l.x l.test) (range_with_len 0 l.y))) 0;
+}
+
+abbrev pub decreases-loop-y : goal.decreases-loop-y
+decreases-loop-y g l = l.walk.to - l.y
