@@ -104,3 +104,4 @@ module _ (doc : Document) where
   called_run f.Floor vs c = no_rows
   called_run f.Ceiling vs c = no_rows
   called_run f.Round vs c = no_rows
+  called_run (f.Stored kind) vs c = no_rows

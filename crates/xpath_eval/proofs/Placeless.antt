@@ -67,6 +67,7 @@ called_at doc f.Sum vs c h = refl
 called_at doc f.Floor vs c h = refl
 called_at doc f.Ceiling vs c h = refl
 called_at doc f.Round vs c h = refl
+called_at doc (f.Stored kind) vs c h = refl
 
 pub called_placeless : (doc : Document) (g : Func) (vs : List Value) (c d : Context) → is_placed g ≡ false → c.row ≡ d.row → called doc g vs c ≡ called doc g vs d
 called_placeless doc g vs c d h same =
@@ -162,6 +163,7 @@ called_no_number doc f.Sum vs c h = h
 called_no_number doc f.Floor vs c h = h
 called_no_number doc f.Ceiling vs c h = h
 called_no_number doc f.Round vs c h = h
+called_no_number doc (f.Stored kind) vs c h = refl
 
 applied_no_number : (doc : Document) (o : Infix) (a b : Value) → compares o ≡ true → is_number (applied doc o a b) ≡ false
 applied_no_number doc (op.Compare c) a b h = refl

@@ -63,6 +63,7 @@ gives_number f.Sum = true
 gives_number f.Floor = true
 gives_number f.Ceiling = true
 gives_number f.Round = true
+gives_number (f.Stored kind) = false
 gives_number _ = false
 
 abbrev pub compares : Infix → Bool

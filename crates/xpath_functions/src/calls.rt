@@ -53,6 +53,7 @@ pub fn call<T: Tree>(
         Func::Floor => Value::Num(numbers::floor(alloc, tree, args)?),
         Func::Ceiling => Value::Num(numbers::ceiling(alloc, tree, args)?),
         Func::Round => Value::Num(numbers::round(alloc, tree, args)?),
+        Func::Stored(kind) => Value::Bool(strings::stored(alloc, tree, args, kind)?),
     };
     Ok(value)
 }

@@ -16,10 +16,11 @@ use Rattle.xpath_parser.specs.declared.term.Term.{Term}
 use Rattle.xpath_parser.specs.declared.term.Term.TheVariants as t
 use Rattle.xpath_parser.specs.Grammar as g
 use Rattle.xpath_parser.specs.Grammar.{tier_of, Node, Reads}
+use Rattle.test_registry.specs.Names.{Known}
 use Rattle.xpath_lexer.specs.Tokens.{Text, Lexeme}
 use Rattle.xpath_lexer.proofs.Spelling.{one_spelling}
-use Rattle.xpath_parser.specs.Terms.{terms}
-use Rattle.xpath_parser.specs.Reading.{ReadsAs}
+use Rattle.xpath_parser.specs.Terms.{terms_over}
+use Rattle.xpath_parser.specs.Reading.{ReadsAs, ReadsOver}
 use Rattle.xpath_parser.specs.Reader as p
 use Rattle.xpath_parser.specs.Reader.{◌>>=◌}
 
@@ -463,7 +464,10 @@ one_reading ts x y r q =
     let right : p.expr (suc (length ts)) ts ≡ Some (y, []) = found ts y q (suc (length ts)) (omega arith) in
     some_first (sym left ∙ right)
 
-pub one_expression : (text : Text) (x y : Expr) → ReadsAs text x → ReadsAs text y → x ≡ y
-one_expression text x y r q =
+pub one_expression_over : (tests : Known) (text : Text) (x y : Expr) → ReadsOver tests text x → ReadsOver tests text y → x ≡ y
+one_expression_over tests text x y r q =
     let same : r.lexemes ≡ q.lexemes = one_spelling q.lexemes r.spelled q.spelled in
-    one_reading (terms q.lexemes) x y (subst (λ (ws : List Lexeme). g.ReadsWhole (terms ws) x) same r.reads) q.reads
+    one_reading (terms_over tests q.lexemes) x y (subst (λ (ws : List Lexeme). g.ReadsWhole (terms_over tests ws) x) same r.reads) q.reads
+
+pub one_expression : (text : Text) (x y : Expr) → ReadsAs text x → ReadsAs text y → x ≡ y
+one_expression text x y r q = one_expression_over [] text x y r q

@@ -1,15 +1,16 @@
 -- From tokens and terms to what a text reads as.
 use Rattle.std.proofs.Common.{◌≡◌, ◌≢◌, refl, subst, sym, ◌∙◌, ap, ℕ, suc, ◌+◌, ◌-◌, ◌<◌, ◌≤◌, ◌^◌, Bool, true, false, List, [], ◌∷◌, length, map, None, arith}
+use Rattle.test_registry.specs.Names.{Known}
 use Rattle.xpath_lexer.specs.Tokens.{Text, Lexeme, Spells}
 use Rattle.text_base.specs.declared.reasons.XPathFault.{XPathFault}
 use Rattle.text_base.specs.declared.reasons.XPathFault.TheVariants as fault
 use Rattle.xpath_lexer.specs.Places.{Stand, IsFault, lexeme_of, most_bytes}
 use Rattle.xpath_lexer.specs.declared.token.XTok.{XTok}
 use Rattle.xpath_parser.specs.declared.expression.Expr.{Expr}
-use Rattle.xpath_parser.specs.Terms.{terms, terms_after, term_of, is_operand, next_kind}
-use Rattle.xpath_parser.specs.Faults.{IsFit, IsXPathFault, first_fault, unread, too_long, unspelled, too_deep}
+use Rattle.xpath_parser.specs.Terms.{terms_over, terms_after_over, term_of_over, is_operand, next_kind}
+use Rattle.xpath_parser.specs.Faults.{IsFit, IsFaultOver, first_fault, unread, too_long, unspelled, too_deep}
 use Rattle.xpath_parser.specs.Grammar.{ReadsWhole}
-use Rattle.xpath_parser.specs.Reading.{ReadsAs, IsReadable}
+use Rattle.xpath_parser.specs.Reading.{ReadsOver, IsReadable}
 use Rattle.xpath_parser.specs.Shapes.{is_well_typed}
 use Rattle.xpath_parser.proofs.Refused.{accepted}
 
@@ -23,40 +24,41 @@ tokens_within text at (w ∷ ws) l (token, more) =
 pub few_tokens : (text : Text) (ws : List XTok) → Stand text 0 ws → length text ≤ most_bytes → length ws < 2 ^ 32
 few_tokens text ws h l = let all = tokens_within text 0 ws (omega arith) h in omega (arith, all, l)
 
-terms_length : (after : Bool) (ws : List Lexeme) → length (terms_after after ws) ≡ length ws
-terms_length after [] = refl
-terms_length after (w ∷ ws) = ap suc (terms_length (is_operand (term_of after w.kind w.text (next_kind ws))) ws)
+module _ (tests : Known) where
+  terms_length : (after : Bool) (ws : List Lexeme) → length (terms_after_over tests after ws) ≡ length ws
+  terms_length after [] = refl
+  terms_length after (w ∷ ws) = ap suc (terms_length (is_operand (term_of_over tests after w.kind w.text (next_kind ws))) ws)
 
-length_map : {A B : Type 0} (f : A → B) (xs : List A) → length (map f xs) ≡ length xs
-length_map f [] = refl
-length_map f (x ∷ xs) = ap suc (length_map f xs)
+  length_map : {A B : Type 0} (f : A → B) (xs : List A) → length (map f xs) ≡ length xs
+  length_map f [] = refl
+  length_map f (x ∷ xs) = ap suc (length_map f xs)
 
--- why a text has no tokens
-pub lexer_fault : (text : Text) (e : XPathFault) → IsFault text e → IsXPathFault text e
-lexer_fault text fault.Long h = too_long h
-lexer_fault text fault.Text h = unspelled h.0 h.1
-lexer_fault text fault.Deep h = absurd h
-lexer_fault text fault.Syntax h = absurd h
-lexer_fault text fault.Fraction h = absurd h
-lexer_fault text fault.Range h = absurd h
-lexer_fault text fault.Div h = absurd h
-lexer_fault text fault.Variable h = absurd h
-lexer_fault text fault.Prefix h = absurd h
-lexer_fault text fault.Function h = absurd h
-lexer_fault text fault.Arguments h = absurd h
-lexer_fault text fault.WrongType h = absurd h
-lexer_fault text fault.Memory h = absurd h
+  -- why a text has no tokens
+  pub lexer_fault : (text : Text) (e : XPathFault) → IsFault text e → IsFaultOver tests text e
+  lexer_fault text fault.Long h = too_long h
+  lexer_fault text fault.Text h = unspelled h.0 h.1
+  lexer_fault text fault.Deep h = absurd h
+  lexer_fault text fault.Syntax h = absurd h
+  lexer_fault text fault.Fraction h = absurd h
+  lexer_fault text fault.Range h = absurd h
+  lexer_fault text fault.Div h = absurd h
+  lexer_fault text fault.Variable h = absurd h
+  lexer_fault text fault.Prefix h = absurd h
+  lexer_fault text fault.Function h = absurd h
+  lexer_fault text fault.Arguments h = absurd h
+  lexer_fault text fault.WrongType h = absurd h
+  lexer_fault text fault.Memory h = absurd h
 
--- as many terms as tokens
-pub few_terms : (ws : List XTok) → length ws < 2 ^ 32 → length (terms (map lexeme_of ws)) < 2 ^ 32
-few_terms ws l = let a = terms_length false (map lexeme_of ws) in let b = length_map lexeme_of ws in omega (arith, a, b, l)
+  -- as many terms as tokens
+  pub few_terms : (ws : List XTok) → length ws < 2 ^ 32 → length (terms_over tests (map lexeme_of ws)) < 2 ^ 32
+  few_terms ws l = let a = terms_length false (map lexeme_of ws) in let b = length_map lexeme_of ws in omega (arith, a, b, l)
 
-pub reads_as : (text : Text) (ws : List Lexeme) (x : Expr) → IsFit text ws → ReadsWhole (terms ws) x → first_fault (terms ws) ≡ None → is_well_typed x ≡ true → ReadsAs text x
-reads_as text ws x fit r none e =
-    record { short = fit.short; lexemes = ws; spelled = fit.spelled; shallow = fit.shallow; reads = r; accepted = accepted (terms ws) none; typed = e }
+  pub reads_as : (text : Text) (ws : List Lexeme) (x : Expr) → IsFit text ws → ReadsWhole (terms_over tests ws) x → first_fault (terms_over tests ws) ≡ None → is_well_typed x ≡ true → ReadsOver tests text x
+  reads_as text ws x fit r none e =
+      record { short = fit.short; lexemes = ws; spelled = fit.spelled; shallow = fit.shallow; reads = r; accepted = accepted (terms_over tests ws) none; typed = e }
 
-pub readable : (text : Text) (x : Expr) → ReadsAs text x → ∥ IsReadable x ∥₁
-readable text x r = ∣ record { text = text; reads = r } ∣₁
+  pub readable : (text : Text) (x : Expr) → ReadsOver tests text x → ∥ IsReadable x ∥₁
+  readable text x r = ∣ record { tests = tests; text = text; reads = r } ∣₁
 
-pub syntax_fault : (text : Text) (ws : List Lexeme) (e : XPathFault) → IsFit text ws → (e ≢ fault.Memory → (e ≡ fault.Syntax) × ((x : Expr) → ReadsWhole (terms ws) x → ⊥)) → e ≢ fault.Memory → IsXPathFault text e
-syntax_fault text ws e fit h some = let why = h some in subst (IsXPathFault text) (sym why.0) (unread fit why.1)
+  pub syntax_fault : (text : Text) (ws : List Lexeme) (e : XPathFault) → IsFit text ws → (e ≢ fault.Memory → (e ≡ fault.Syntax) × ((x : Expr) → ReadsWhole (terms_over tests ws) x → ⊥)) → e ≢ fault.Memory → IsFaultOver tests text e
+  syntax_fault text ws e fit h some = let why = h some in subst (IsFaultOver tests text) (sym why.0) (unread fit why.1)

@@ -2,11 +2,12 @@
 use Rattle.std.specs.Prelude.{◌≡◌, ℕ, zero, suc, ◌<◌, ◌≤◌, false, if◌then◌else◌, List, [], ◌∷◌, length, Option, Some, None}
 use Rattle.text_base.specs.declared.reasons.XPathFault.{XPathFault}
 use Rattle.text_base.specs.declared.reasons.XPathFault.TheVariants as fault
+use Rattle.test_registry.specs.Names.{Known}
 use Rattle.xpath_lexer.specs.Tokens.{Text, Lexeme, Spells}
 use Rattle.xpath_parser.specs.declared.expression.Expr.{Expr}
 use Rattle.xpath_parser.specs.declared.term.Term.{Term}
 use Rattle.xpath_parser.specs.declared.term.Term.TheVariants as t
-use Rattle.xpath_parser.specs.Terms.{terms, IsShallow}
+use Rattle.xpath_parser.specs.Terms.{terms_over, IsShallow}
 use Rattle.xpath_parser.specs.Grammar.{ReadsWhole}
 use Rattle.xpath_parser.specs.Shapes.{takes, is_well_typed}
 use Rattle.xpath_parser.specs.Reading.{most_bytes}
@@ -91,10 +92,15 @@ pub record IsFit (text : Text) (ws : List Lexeme) : Type 0 where
   pub spelled : Spells text ws
   pub shallow : IsShallow ws
 
-pub data IsXPathFault (text : Text) : XPathFault → Type 0 where
-  too_long : most_bytes < length text → IsXPathFault text fault.Long
-  unspelled : length text ≤ most_bytes → ((ws : List Lexeme) → Spells text ws → ⊥) → IsXPathFault text fault.Text
-  too_deep : {ws : List Lexeme} → length text ≤ most_bytes → Spells text ws → (IsShallow ws → ⊥) → IsXPathFault text fault.Deep
-  unread : {ws : List Lexeme} → IsFit text ws → ((x : Expr) → ReadsWhole (terms ws) x → ⊥) → IsXPathFault text fault.Syntax
-  at_token : {ws : List Lexeme} {x : Expr} {f : XPathFault} → IsFit text ws → ReadsWhole (terms ws) x → first_fault (terms ws) ≡ Some f → IsXPathFault text f
-  wrong_type : {ws : List Lexeme} {x : Expr} → IsFit text ws → ReadsWhole (terms ws) x → first_fault (terms ws) ≡ None → is_well_typed x ≡ false → IsXPathFault text fault.WrongType
+-- why the text reads as no expression where these tests are stored
+pub data IsFaultOver (tests : Known) (text : Text) : XPathFault → Type 0 where
+  too_long : most_bytes < length text → IsFaultOver tests text fault.Long
+  unspelled : length text ≤ most_bytes → ((ws : List Lexeme) → Spells text ws → ⊥) → IsFaultOver tests text fault.Text
+  too_deep : {ws : List Lexeme} → length text ≤ most_bytes → Spells text ws → (IsShallow ws → ⊥) → IsFaultOver tests text fault.Deep
+  unread : {ws : List Lexeme} → IsFit text ws → ((x : Expr) → ReadsWhole (terms_over tests ws) x → ⊥) → IsFaultOver tests text fault.Syntax
+  at_token : {ws : List Lexeme} {x : Expr} {f : XPathFault} → IsFit text ws → ReadsWhole (terms_over tests ws) x → first_fault (terms_over tests ws) ≡ Some f → IsFaultOver tests text f
+  wrong_type : {ws : List Lexeme} {x : Expr} → IsFit text ws → ReadsWhole (terms_over tests ws) x → first_fault (terms_over tests ws) ≡ None → is_well_typed x ≡ false → IsFaultOver tests text fault.WrongType
+
+-- why it reads as no expression of XPath 1.0 alone
+abbrev pub IsXPathFault : Text → XPathFault → Type 0
+IsXPathFault text f = IsFaultOver [] text f

@@ -1,10 +1,11 @@
 -- The functions of XPath 1.0, section 4.
-use Rattle.std.specs.Prelude.{ℕ, Bool, true, false, ◌&&◌, ◌||◌, ◌==◌, not, List, [], ◌∷◌, ◌++◌, filter, map, reverse, length, flat_map, slice_index_or, codes, pos}
+use Rattle.std.specs.Prelude.{ℕ, Bool, true, false, ◌&&◌, ◌||◌, ◌==◌, not, List, [], ◌∷◌, ◌++◌, filter, map, reverse, length, flat_map, slice_index_or, codes, pos, encode_utf8_all}
 use Rattle.std.specs.List.{list_any, fold}
 use Rattle.std.specs.Char.{to_ascii_lowercase}
 use Rattle.std.specs.Str.{bytes_eq}
 use Rattle.doc_model.specs.Document.{Document, row, rows, is_element, is_attribute, is_parent, below}
 use Rattle.doc_model.specs.StringValue.{string_value}
+use Rattle.test_registry.specs.Meets.{meets}
 use Rattle.xpath_values.specs.declared.value.XNum.{XNum}
 use Rattle.xpath_values.specs.declared.value.XNum.TheVariants.{Whole}
 use Rattle.xpath_values.specs.declared.value.Value.{Value}
@@ -118,3 +119,4 @@ module _ (doc : Document) where
   called f.Floor vs c = Num (number_of doc (arg 0 vs (Nodes [])))
   called f.Ceiling vs c = Num (number_of doc (arg 0 vs (Nodes [])))
   called f.Round vs c = Num (number_of doc (arg 0 vs (Nodes [])))
+  called (f.Stored kind) vs c = Truth (meets kind (encode_utf8_all (text_of doc (arg 0 vs (Nodes [])))) (encode_utf8_all (text_of doc (arg 1 vs (Nodes [])))))

@@ -1,20 +1,25 @@
 -- What holds of every text and of every list of terms.
 use Rattle.std.specs.Prelude.{◌≡◌, ◌↔◌, ◌⊎◌, ℕ, suc, ◌<◌, ◌≤◌, false, List, [], ◌++◌, length, map, Some}
+use Rattle.test_registry.specs.Names.{Known}
 use Rattle.xpath_lexer.specs.Tokens.{Text}
 use Rattle.xpath_parser.specs.declared.expression.Expr.{Expr}
 use Rattle.xpath_parser.specs.declared.term.Term.{Term}
 use Rattle.text_base.specs.declared.reasons.XPathFault.{XPathFault}
-use Rattle.xpath_parser.specs.Faults.{IsXPathFault}
+use Rattle.xpath_parser.specs.Faults.{IsFaultOver}
 use Rattle.xpath_parser.specs.Grammar.{Operands, Reads, ReadsWhole, at, rest}
 use Rattle.xpath_parser.specs.Levels.{operators_of}
 use Rattle.xpath_parser.specs.Reader as reader
-use Rattle.xpath_parser.specs.Reading.{ReadsAs}
+use Rattle.xpath_parser.specs.Reading.{ReadsAs, ReadsOver}
 
 abbrev pub OneReading : Type 0
 OneReading = (ts : List Term) (x y : Expr) → ReadsWhole ts x → ReadsWhole ts y → x ≡ y
 
 abbrev pub OneExpression : Type 0
-OneExpression = (text : Text) (x y : Expr) → ReadsAs text x → ReadsAs text y → x ≡ y
+OneExpression = (tests : Known) (text : Text) (x y : Expr) → ReadsOver tests text x → ReadsOver tests text y → x ≡ y
+
+-- a text that reads where no tests are stored reads as the same expression where some are
+abbrev pub ReadsMore : Type 0
+ReadsMore = (tests : Known) (text : Text) (x : Expr) → ReadsAs text x → ReadsOver tests text x
 
 -- with more levels than terms, reading from the left finds an expression and nothing after it exactly where the rules read it
 abbrev pub FoundExactly : Type 0
@@ -22,23 +27,30 @@ FoundExactly = (levels : ℕ) (ts : List Term) (x : Expr) → length ts < levels
 
 -- a text is refused for one reason
 abbrev pub OneFault : Type 0
-OneFault = (text : Text) (f g : XPathFault) → IsXPathFault text f → IsXPathFault text g → f ≡ g
+OneFault = (tests : Known) (text : Text) (f g : XPathFault) → IsFaultOver tests text f → IsFaultOver tests text g → f ≡ g
 
-pub record IsRead (text : Text) : Type 0 where
+pub record IsReadOver (tests : Known) (text : Text) : Type 0 where
   pub expression : Expr
-  pub reads : ReadsAs text expression
+  pub reads : ReadsOver tests text expression
 
-pub record IsRefused (text : Text) : Type 0 where
+pub record IsRefusedOver (tests : Known) (text : Text) : Type 0 where
   pub fault : XPathFault
-  pub stands : IsXPathFault text fault
+  pub stands : IsFaultOver tests text fault
+
+-- the same where no tests are stored
+abbrev pub IsRead : Text → Type 0
+IsRead text = IsReadOver [] text
+
+abbrev pub IsRefused : Text → Type 0
+IsRefused text = IsRefusedOver [] text
 
 -- and each text reads as an expression or is refused
 abbrev pub ReadOrRefused : Type 0
-ReadOrRefused = (text : Text) → IsRead text ⊎ IsRefused text
+ReadOrRefused = (tests : Known) (text : Text) → IsReadOver tests text ⊎ IsRefusedOver tests text
 
 -- and no text does both
 abbrev pub NeverBoth : Type 0
-NeverBoth = (text : Text) (x : Expr) (f : XPathFault) → ReadsAs text x → IsXPathFault text f → ⊥
+NeverBoth = (tests : Known) (text : Text) (x : Expr) (f : XPathFault) → ReadsOver tests text x → IsFaultOver tests text f → ⊥
 
 -- Where the first operand of a level and its other operands are read, the operators between them are all of the level's operators
 -- outside brackets, in their order. A `-` is one exactly where a term stands before it that is none of `@`, `::`, `(`, `[`, `,` and

@@ -62,6 +62,7 @@ function_shape f.Sum = shape.Num
 function_shape f.Floor = shape.Num
 function_shape f.Ceiling = shape.Num
 function_shape f.Round = shape.Num
+function_shape (f.Stored kind) = shape.Bool
 
 -- it takes so many arguments
 abbrev pub takes : Func → ℕ → Bool
@@ -92,6 +93,7 @@ takes f.Sum n = n == 1
 takes f.Floor n = n == 1
 takes f.Ceiling n = n == 1
 takes f.Round n = n == 1
+takes (f.Stored kind) n = n == 2
 
 -- its arguments must be nodes
 abbrev pub wants_nodes : Func → Bool
@@ -122,6 +124,7 @@ wants_nodes f.Number = false
 wants_nodes f.Floor = false
 wants_nodes f.Ceiling = false
 wants_nodes f.Round = false
+wants_nodes (f.Stored kind) = false
 
 abbrev pub if_wanted : Bool → Shape → Bool
 if_wanted true s = is_nodes s

@@ -4,6 +4,8 @@ use Rattle.std.specs.List.{list_any, fold}
 use Rattle.std.specs.Str.{chars, bytes_eq}
 use Rattle.doc_model.specs.declared.Axis.{Axis}
 use Rattle.doc_model.specs.declared.Axis.TheVariants as axis
+use Rattle.test_registry.specs.declared.kinds.TestKind.{TestKind}
+use Rattle.test_registry.specs.Names.{Known, named_in as kind_of}
 use Rattle.xpath_lexer.specs.declared.token.XKind.{XKind}
 use Rattle.xpath_lexer.specs.declared.token.XKind.TheVariants as k
 use Rattle.xpath_lexer.specs.Tokens.{Text, Lexeme}
@@ -61,16 +63,33 @@ abbrev pub function_term : Option Func → Term
 function_term (Some g) = t.Function g
 function_term None = t.UnknownFunction
 
+-- one of the functions, or else a stored test
+abbrev pub or_stored : Option Func → Option TestKind → Option Func
+or_stored (Some g) kind = Some g
+or_stored None (Some kind) = Some (f.Stored kind)
+or_stored None None = None
+
+-- the function of that name, where these tests are stored
+abbrev pub function_of : Known → Text → Option Func
+function_of [] w = named_in function_names w
+function_of (p ∷ ps) w = or_stored (named_in function_names w) (kind_of (p ∷ ps) w)
+
 -- a name before `(` is a node type, or else a function's
+abbrev pub called_term_over : Known → Option NodeType → Text → Term
+called_term_over tests (Some n) w = t.NodeType n
+called_term_over tests None w = function_term (function_of tests w)
+
 abbrev pub called_term : Option NodeType → Text → Term
-called_term (Some n) w = t.NodeType n
-called_term None w = function_term (named_in function_names w)
+called_term n w = called_term_over [] n w
 
 -- a name that is no operator, by the kind of the token after it
+abbrev pub name_term_over : Known → Option XKind → Text → Term
+name_term_over tests (Some k.DoubleColon) w = axis_term (named_in axis_names w)
+name_term_over tests (Some k.OpenRound) w = called_term_over tests (named_in node_type_names w) w
+name_term_over tests _ w = t.Name (chars w)
+
 abbrev pub name_term : Option XKind → Text → Term
-name_term (Some k.DoubleColon) w = axis_term (named_in axis_names w)
-name_term (Some k.OpenRound) w = called_term (named_in node_type_names w) w
-name_term _ w = t.Name (chars w)
+name_term next w = name_term_over [] next w
 
 abbrev pub digits_value : Text → ℕ
 digits_value ds = fold (λ n d. n * 10 + (d - 48)) 0 ds
@@ -81,35 +100,38 @@ number_term w =
     if nat_le (digits_value w) 9007199254740991 then t.Number (pos (digits_value w)) else t.TooLarge
 
 -- What a token is. `after` says that the token before it is there and is none of `@`, `::`, `(`, `[`, `,` and an operator.
+abbrev pub term_of_over : Known → Bool → XKind → Text → Option XKind → Term
+term_of_over tests true k.Name w next = operator_term (named_in operator_names w)
+term_of_over tests false k.Name w next = name_term_over tests next w
+term_of_over tests true k.Star w next = t.Times
+term_of_over tests false k.Star w next = t.AnyName
+term_of_over tests after k.OpenRound w next = t.OpenRound
+term_of_over tests after k.CloseRound w next = t.CloseRound
+term_of_over tests after k.OpenSquare w next = t.OpenSquare
+term_of_over tests after k.CloseSquare w next = t.CloseSquare
+term_of_over tests after k.Dot w next = t.Dot
+term_of_over tests after k.DotDot w next = t.DotDot
+term_of_over tests after k.At w next = t.At
+term_of_over tests after k.Comma w next = t.Comma
+term_of_over tests after k.DoubleColon w next = t.DoubleColon
+term_of_over tests after k.Literal w next = t.Literal (chars w)
+term_of_over tests after k.Number w next = number_term w
+term_of_over tests after k.Prefixed w next = t.Prefixed
+term_of_over tests after k.Variable w next = t.Variable
+term_of_over tests after k.Slash w next = t.Slash
+term_of_over tests after k.DoubleSlash w next = t.DoubleSlash
+term_of_over tests after k.Bar w next = t.Bar
+term_of_over tests after k.Plus w next = t.Plus
+term_of_over tests after k.Minus w next = t.Minus
+term_of_over tests after k.Equal w next = t.Equal
+term_of_over tests after k.Unequal w next = t.Unequal
+term_of_over tests after k.Less w next = t.Less
+term_of_over tests after k.LessEqual w next = t.LessEqual
+term_of_over tests after k.Greater w next = t.Greater
+term_of_over tests after k.GreaterEqual w next = t.GreaterEqual
+
 abbrev pub term_of : Bool → XKind → Text → Option XKind → Term
-term_of true k.Name w next = operator_term (named_in operator_names w)
-term_of false k.Name w next = name_term next w
-term_of true k.Star w next = t.Times
-term_of false k.Star w next = t.AnyName
-term_of after k.OpenRound w next = t.OpenRound
-term_of after k.CloseRound w next = t.CloseRound
-term_of after k.OpenSquare w next = t.OpenSquare
-term_of after k.CloseSquare w next = t.CloseSquare
-term_of after k.Dot w next = t.Dot
-term_of after k.DotDot w next = t.DotDot
-term_of after k.At w next = t.At
-term_of after k.Comma w next = t.Comma
-term_of after k.DoubleColon w next = t.DoubleColon
-term_of after k.Literal w next = t.Literal (chars w)
-term_of after k.Number w next = number_term w
-term_of after k.Prefixed w next = t.Prefixed
-term_of after k.Variable w next = t.Variable
-term_of after k.Slash w next = t.Slash
-term_of after k.DoubleSlash w next = t.DoubleSlash
-term_of after k.Bar w next = t.Bar
-term_of after k.Plus w next = t.Plus
-term_of after k.Minus w next = t.Minus
-term_of after k.Equal w next = t.Equal
-term_of after k.Unequal w next = t.Unequal
-term_of after k.Less w next = t.Less
-term_of after k.LessEqual w next = t.LessEqual
-term_of after k.Greater w next = t.Greater
-term_of after k.GreaterEqual w next = t.GreaterEqual
+term_of after kind w next = term_of_over [] after kind w next
 
 -- the term is none of `@`, `::`, `(`, `[`, `,` and an operator
 abbrev pub is_operand : Term → Bool
@@ -157,13 +179,21 @@ next_kind [] = None
 next_kind (w ∷ ws) = Some w.kind
 
 -- the terms of the tokens that stand after such a token, or not
-abbrev pub terms_after : Bool → List Lexeme → List Term
-terms_after after [] = []
-terms_after after (w ∷ ws) =
-    let found = term_of after w.kind w.text (next_kind ws) in found ∷ terms_after (is_operand found) ws
+abbrev pub terms_after_over : Known → Bool → List Lexeme → List Term
+terms_after_over tests after [] = []
+terms_after_over tests after (w ∷ ws) =
+    let found = term_of_over tests after w.kind w.text (next_kind ws) in found ∷ terms_after_over tests (is_operand found) ws
 
+abbrev pub terms_after : Bool → List Lexeme → List Term
+terms_after after ws = terms_after_over [] after ws
+
+-- the terms where these tests are stored
+abbrev pub terms_over : Known → List Lexeme → List Term
+terms_over tests ws = terms_after_over tests false ws
+
+-- the terms of XPath 1.0 alone
 abbrev pub terms : List Lexeme → List Term
-terms ws = terms_after false ws
+terms ws = terms_over [] ws
 
 -- ---- what makes no expression although the grammar reads it
 

@@ -1,4 +1,5 @@
 use doc_model::{Axis, NodeTest};
+use test_registry::TestKind;
 use text_base::{Boxed, Seq, Txt};
 use xpath_values::Compare;
 
@@ -12,7 +13,7 @@ pub enum Infix {
     Mod,
 }
 
-/// The functions of XPath 1.0, section 4. `Str` is the function `string`.
+/// The functions of XPath 1.0, section 4, and stored tests. `Str` is the function `string`.
 #[derive(Clone, Copy, Debug, PartialEq, Eq)]
 pub enum Func {
     Last,
@@ -42,6 +43,8 @@ pub enum Func {
     Floor,
     Ceiling,
     Round,
+    /// A stored test of the kind.
+    Stored(TestKind),
 }
 
 /// An expression. Each level keeps its operands as one list, so that only brackets nest. `Joined`

@@ -59,7 +59,7 @@ pub fn takes(function: Func, count: usize) -> bool
         Func::StringLength | Func::NormalizeSpace | Func::Number => count <= 1,
         Func::Concat => count >= 2,
         Func::StartsWith | Func::Contains => count == 2,
-        Func::SubstringBefore | Func::SubstringAfter => count == 2,
+        Func::SubstringBefore | Func::SubstringAfter | Func::Stored(_) => count == 2,
         Func::Substring => count >= 2 && count <= 3,
         Func::Translate => count == 3,
     }

@@ -1,4 +1,4 @@
-ghost use Rattle.xpath_parser.specs.Laws.{FoundExactly, LevelsCut, NeverBoth, NoneLooser, OneExpression, OneFault, OneReading, ReadOrRefused};
+ghost use Rattle.xpath_parser.specs.Laws.{FoundExactly, LevelsCut, NeverBoth, NoneLooser, OneExpression, OneFault, OneReading, ReadOrRefused, ReadsMore};
 
 /// The grammar of XPath 1.0 reads a list of terms as at most one expression.
 pub fn one_reading()
@@ -13,6 +13,11 @@ pub fn one_expression()
 /// Reading from the left finds exactly what the grammar reads.
 pub fn found_exactly()
     ensures { FoundExactly }
+{}
+
+/// A text that reads where no tests are stored reads as the same expression where some are.
+pub fn reads_more()
+    ensures { ReadsMore }
 {}
 
 /// A text is refused for at most one reason.

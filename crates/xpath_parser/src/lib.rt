@@ -24,8 +24,8 @@ mod whole;
 pub use expression::{Expr, Func, Infix, Operand, Start, Step};
 pub use laws::{
     found_exactly, levels_cut, never_both, none_looser, one_expression, one_fault, one_reading,
-    read_or_refused,
+    read_or_refused, reads_more,
 };
-pub use parse::parse_xpath;
+pub use parse::{parse_xpath, parse_xpath_with};
 pub use term::{NodeType, Term};
 pub use typed::Typed;

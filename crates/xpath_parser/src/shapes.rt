@@ -49,7 +49,7 @@ fn function_shape(function: Func) -> Shape
         Func::Last | Func::Position | Func::Count | Func::StringLength => Shape::Num,
         Func::Number | Func::Sum | Func::Floor | Func::Ceiling | Func::Round => Shape::Num,
         Func::StartsWith | Func::Contains | Func::Boolean | Func::Not => Shape::Bool,
-        Func::True | Func::False | Func::Lang => Shape::Bool,
+        Func::True | Func::False | Func::Lang | Func::Stored(_) => Shape::Bool,
         _ => Shape::Str,
     }
 }

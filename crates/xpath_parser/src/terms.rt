@@ -1,13 +1,16 @@
 //! The lexical rule of XPath 1.0, section 3.7.
 ghost use Rattle.std.specs.Prelude.{◌≡◌, [], None, IfOk, drop, map};
+ghost use Rattle.test_registry.specs.View.{known};
 ghost use Rattle.xpath_lexer.specs.declared.token.XKind.TheVariants as kind;
 ghost use Rattle.xpath_lexer.specs.Places.{lexeme_of};
 ghost use Rattle.xpath_parser.specs.Terms as spec;
 
+use crate::expression::Func;
 use crate::names::{axis_named, function_named, node_type_named};
 use crate::numbers::number_term;
 use crate::term::Term;
 use std::alloc::Global;
+use test_registry::Tests;
 use text_base::{NoMemory, Seq, Txt};
 use xpath_lexer::{XKind, XTok};
 
@@ -39,29 +42,48 @@ fn axis_term(name: &str) -> Term
     }
 }
 
+/// The function of that name, or the stored test.
+fn function_of(tests: &Tests, name: &str) -> Option<Func>
+    ensures { result ≡ spec.function_of (known tests.now) name.now }
+{
+    if let Some(function) = function_named(name) {
+        return Some(function);
+    }
+    match tests.find(name) {
+        Some(kind) => Some(Func::Stored(kind)),
+        None => None,
+    }
+}
+
 /// A name before `(`.
-fn called_term(name: &str) -> Term
-    ensures { result ≡ spec.called_term (spec.named_in spec.node_type_names name.now) name.now }
+fn called_term(tests: &Tests, name: &str) -> Term
+    ensures { result ≡ spec.called_term_over (known tests.now) (spec.named_in spec.node_type_names name.now) name.now }
 {
     if let Some(kind) = node_type_named(name) {
         return Term::NodeType(kind);
     }
-    match function_named(name) {
+    match function_of(tests, name) {
         Some(function) => Term::Function(function),
         None => Term::UnknownFunction,
     }
 }
 
 /// A name, by what stands before and after it.
-fn name_term(alloc: Global, after: bool, name: &str, next: Option<XKind>) -> Result<Term, NoMemory>
-    ensures { IfOk result (λ t. t ≡ spec.term_of after kind.Name name.now next) }
+fn name_term(
+    alloc: Global,
+    tests: &Tests,
+    after: bool,
+    name: &str,
+    next: Option<XKind>,
+) -> Result<Term, NoMemory>
+    ensures { IfOk result (λ t. t ≡ spec.term_of_over (known tests.now) after kind.Name name.now next) }
 {
     if after {
         return Ok(operator_term(name));
     }
     match next {
         Some(XKind::DoubleColon) => Ok(axis_term(name)),
-        Some(XKind::OpenRound) => Ok(called_term(name)),
+        Some(XKind::OpenRound) => Ok(called_term(tests, name)),
         _ => Ok(Term::Name(Txt::of(alloc, name)?)),
     }
 }
@@ -76,15 +98,16 @@ fn star_term(after: bool) -> Term
 /// `[`, `,` and an operator.
 fn term_of(
     alloc: Global,
+    tests: &Tests,
     after: bool,
     kind: XKind,
     text: &str,
     next: Option<XKind>,
 ) -> Result<Term, NoMemory>
-    ensures { IfOk result (λ t. t ≡ spec.term_of after kind text.now next) }
+    ensures { IfOk result (λ t. t ≡ spec.term_of_over (known tests.now) after kind text.now next) }
 {
     Ok(match kind {
-        XKind::Name => name_term(alloc, after, text, next)?,
+        XKind::Name => name_term(alloc, tests, after, text, next)?,
         XKind::Star => star_term(after),
         XKind::Literal => Term::Literal(Txt::of(alloc, text)?),
         XKind::Number => number_term(text),
@@ -138,15 +161,15 @@ fn kind_at(tokens: &[XTok], at: usize) -> Option<XKind>
 }
 
 /// The terms of tokens.
-pub fn terms_of(alloc: Global, tokens: &[XTok]) -> Result<Seq<Term>, NoMemory>
-    ensures { IfOk result (λ ts. ts ≡ spec.terms (map lexeme_of tokens.now)) }
+pub fn terms_of(alloc: Global, tokens: &[XTok], tests: &Tests) -> Result<Seq<Term>, NoMemory>
+    ensures { IfOk result (λ ts. ts ≡ spec.terms_over (known tests.now) (map lexeme_of tokens.now)) }
 {
     let mut found = Seq::new(alloc);
     let mut after = false;
     for at in 0..tokens.len() {
         let token = &tokens[at];
         let next = kind_at(tokens, at + 1);
-        let term = term_of(alloc, after, token.kind, token.value.as_str(), next)?;
+        let term = term_of(alloc, tests, after, token.kind, token.value.as_str(), next)?;
         after = is_operand(&term);
         found.push(term)?;
     }

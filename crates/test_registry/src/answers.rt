@@ -1,0 +1,94 @@
+//! What tests of each kind answer.
+ghost use Rattle.std.specs.Prelude.{◌≡◌, ◌<◌, ◌≤◌, length};
+ghost use Rattle.test_registry.specs.declared.kinds.TestKind.TheVariants.{SameFolded, EndsWith, HasWord, Near};
+ghost use Rattle.test_registry.specs.Meets.{meets, number_of, are_near, is_digit};
+
+use crate::kinds::TestKind;
+use text_base::{NotSpace4, Space4, part, run_end};
+
+/// Whether the texts are equal but for the case of ASCII letters.
+#[tactic(auto, using(crate::proofs::Equal::same_folded))]
+pub fn same_folded(a: &str, b: &str) -> bool
+    ensures { result ≡ meets SameFolded a.now b.now }
+{
+    a.eq_ignore_ascii_case(b)
+}
+
+/// Whether the second text ends the first.
+#[tactic(auto, using(std::proofs::lemmas::Str::Pattern::ends_text))]
+pub fn ends_with(a: &str, b: &str) -> bool
+    ensures { result ≡ meets EndsWith a.now b.now }
+{
+    a.ends_with(b)
+}
+
+/// Whether the second text is a word of the first.
+pub fn has_word(a: &str, b: &str) -> bool
+    ensures { result ≡ meets HasWord a.now b.now }
+{
+    let mut at = 0;
+    while at < a.len() {
+        let start = run_end(a, &Space4, at);
+        if start >= a.len() {
+            return false;
+        }
+        let end = run_end(a, &NotSpace4, start);
+        if part(a, start, end) == b {
+            return true;
+        }
+        at = end;
+    }
+    false
+}
+
+fn is_digit(byte: u8) -> bool
+    ensures { result ≡ is_digit byte }
+{
+    byte >= b'0' && byte <= b'9'
+}
+
+/// The number that one to nine ASCII digits write.
+fn number_of(text: &str) -> Option<u32>
+    ensures { result ≡ number_of text.now }
+{
+    let bytes = text.as_bytes();
+    if bytes.len() < 1 || bytes.len() > 9 {
+        return None;
+    }
+    let mut value = 0u32;
+    for byte in bytes {
+        if !is_digit(*byte) {
+            return None;
+        }
+        value = value * 10 + (*byte - b'0') as u32;
+    }
+    Some(value)
+}
+
+fn are_near(most: u32, m: Option<u32>, n: Option<u32>) -> bool
+    ensures { result ≡ are_near most m n }
+{
+    match (m, n) {
+        (Some(m), Some(n)) => m.abs_diff(n) <= most,
+        _ => false,
+    }
+}
+
+/// Whether both texts are numbers of one to nine digits that differ by at most so much.
+pub fn near(most: u32, a: &str, b: &str) -> bool
+    ensures { result ≡ meets (Near most) a.now b.now }
+{
+    are_near(most, number_of(a), number_of(b))
+}
+
+/// What a test of the kind answers.
+pub fn answer(kind: TestKind, a: &str, b: &str) -> bool
+    ensures { result ≡ meets kind a.now b.now }
+{
+    match kind {
+        TestKind::SameFolded => same_folded(a, b),
+        TestKind::EndsWith => ends_with(a, b),
+        TestKind::HasWord => has_word(a, b),
+        TestKind::Near(most) => near(most, a, b),
+    }
+}
