@@ -45,6 +45,16 @@ impl<'a> ArenaGrow<'a> {
             kept: GrowingRows::new(arena),
         }
     }
+
+    /// The same, with room for so many rows.
+    pub fn with_room(arena: &'a Bump, rows: usize) -> Result<ArenaGrow<'a>, NoMemory>
+        ensures { IfOk result (λ g. ⟦<ArenaGrow<'a> as Grow<'a>>⟧.growing g ≡ fresh) }
+    {
+        Ok(ArenaGrow {
+            arena,
+            kept: GrowingRows::with_room(arena, rows)?,
+        })
+    }
 }
 
 impl<'a> Grow<'a> for ArenaGrow<'a> {

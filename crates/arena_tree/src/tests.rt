@@ -28,3 +28,12 @@ fn keeps_rows(rt: HostRuntime) {
         "the tree is gone, and with it all that lay in the arena"
     );
 }
+
+#[test]
+fn keeps_rows_in_room(rt: HostRuntime) {
+    let arena = Bump::new(rt.alloc());
+    let grow = ArenaGrow::with_room(&arena, 2).expect(&rt, "room");
+    let tree = build_worked(grow).expect(&rt, "memory");
+    assert_eq!(rt; tree.len(), 7);
+    assert_eq!(rt; tree.text(3), "ab");
+}

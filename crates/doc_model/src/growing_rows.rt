@@ -1,5 +1,5 @@
 //! Rows that are kept while a document grows.
-ghost use Rattle.std.specs.Prelude.{◌≡◌, ◌≢◌, ◌<◌, ◌+◌, ◌^◌, [], ℕ, length, reverse, OnOk, OnErr};
+ghost use Rattle.std.specs.Prelude.{◌≡◌, ◌≢◌, ◌<◌, ◌+◌, ◌^◌, [], ℕ, length, reverse, OnOk, OnErr, IfOk};
 ghost use Rattle.doc_model.specs.Document.{IsDocument};
 ghost use Rattle.doc_model.specs.Growing.{fresh, innermost, with_row, with_element, with_attr, with_text, with_comment, with_close, AwaitsAttr, AwaitsText, IsGrowing};
 ghost use Rattle.doc_model.specs.KeptRows.{rows_of, ends_of, growing_of, AreEnds};
@@ -29,6 +29,16 @@ impl<X: RowText + Drop, A: Allocator + Copy> GrowingRows<X, A> {
             rows: Vec::new(alloc),
             unclosed: Vec::new(alloc),
         }
+    }
+
+    /// The same, with room for so many rows.
+    pub fn with_room(alloc: A, rows: usize) -> Result<GrowingRows<X, A>, NoMemory>
+        ensures { IfOk result (λ g. growing_of g.rows.items g.unclosed.items ≡ fresh) }
+    {
+        Ok(GrowingRows {
+            rows: Vec::with_capacity(alloc, rows)?,
+            unclosed: Vec::new(alloc),
+        })
     }
 
     /// The innermost open element, or the root node.

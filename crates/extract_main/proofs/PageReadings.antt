@@ -80,3 +80,9 @@ line_of_text fields name bytes text a short decodes (inr h) =
 pub long_line : (fields : List Field) (name bytes : List ℕ) (made : Result Line NoMemory) → most_page < length bytes
     → IfOk made (λ l. answer_of l ≡ record { text = refused_text name too_long; refused = true }) → IfOk made (λ l. IsPageLine fields name bytes (answer_of l))
 long_line fields name bytes made long h = IfOk-weaker made _ _ (λ l e. inl (record { fault = too_long; cause = inl (record { long = long; is = refl }); line = e })) h
+
+-- the line of a document that was read of the text
+pub built_line : (fields : List Field) (name text : List ℕ) (made : Result Line NoMemory) (kept doc : Document) → kept ≡ doc → BuildsPage text doc
+    → IfOk made (λ l. IsDocumentLine fields name kept (answer_of l)) → IfOk made (λ l. IsTextLine fields name text (answer_of l))
+built_line fields name text made kept doc same builds h =
+    IfOk-weaker made _ _ (λ l is. inr (record { doc = kept; builds = subst (λ x. BuildsPage text x) (sym same) builds; is = is })) h

@@ -24,35 +24,43 @@ fn push(page: &mut String, text: &str) -> Result<(), NoMemory>
     }
 }
 
-/// Appends the decimal digits.
-fn push_number(alloc: Global, page: &mut String, n: u32) -> Result<(), NoMemory>
-    ensures { OnOk result (string_bytes page.new ≡ string_bytes page.old ++ decimal n) }
+/// The digit of a number below seven.
+fn digit(n: u32) -> &'static str
+    requires { n < 7 }
+    ensures { result.now ≡ decimal n }
 {
-    match n.to_string(alloc) {
-        Ok(digits) => push(page, digits.as_str()),
-        Err(_) => Err(NoMemory),
+    match n {
+        0 => "0",
+        1 => "1",
+        2 => "2",
+        3 => "3",
+        4 => "4",
+        5 => "5",
+        _ => "6",
     }
 }
 
-/// Appends the start tag of an item.
-fn push_tag(alloc: Global, page: &mut String, i: u32) -> Result<(), NoMemory>
+/// Appends the start tag of an item, whose number has these digits.
+fn push_tag(page: &mut String, i: u32, digits: &str) -> Result<(), NoMemory>
+    requires { digits.now ≡ decimal i }
     ensures { OnOk result (string_bytes page.new ≡ string_bytes page.old ++ item_tag i) }
 {
     push(page, "<li class=\"k")?;
-    push_number(alloc, page, i % 7)?;
+    push(page, digit(i % 7))?;
     push(page, "\" id=\"n")?;
-    push_number(alloc, page, i)?;
+    push(page, digits)?;
     push(page, "\">")
 }
 
-/// Appends the link of an item.
-fn push_link(alloc: Global, page: &mut String, i: u32) -> Result<(), NoMemory>
+/// Appends the link of an item, whose number has these digits.
+fn push_link(page: &mut String, i: u32, digits: &str) -> Result<(), NoMemory>
+    requires { digits.now ≡ decimal i }
     ensures { OnOk result (string_bytes page.new ≡ string_bytes page.old ++ item_link i) }
 {
     push(page, "<a href=\"/p/")?;
-    push_number(alloc, page, i)?;
+    push(page, digits)?;
     push(page, "\">item ")?;
-    push_number(alloc, page, i)?;
+    push(page, digits)?;
     push(page, "</a>")
 }
 
@@ -60,8 +68,12 @@ fn push_link(alloc: Global, page: &mut String, i: u32) -> Result<(), NoMemory>
 fn push_item(alloc: Global, page: &mut String, i: u32) -> Result<(), NoMemory>
     ensures { OnOk result (string_bytes page.new ≡ string_bytes page.old ++ bulk_item i) }
 {
-    push_tag(alloc, page, i)?;
-    push_link(alloc, page, i)
+    let digits = match i.to_string(alloc) {
+        Ok(digits) => digits,
+        Err(_) => return Err(NoMemory),
+    };
+    push_tag(page, i, digits.as_str())?;
+    push_link(page, i, digits.as_str())
 }
 
 /// The page with the items from 1 to `n`, in one line: a list whose items have classes, ids and links.
@@ -70,7 +82,7 @@ pub fn bulk_page(alloc: Global, n: u32) -> Result<String, NoMemory>
     requires most { n ≤ 20000 }
     ensures { IfOk result (λ s. string_bytes s ≡ bulk_text n) }
 {
-    let mut page = String::new(alloc);
+    let mut page = String::with_capacity(alloc, 100 + 64 * n as usize)?;
     push(
         &mut page,
         "<!DOCTYPE html><html><head><title>bulk</title></head><body><ul>",

@@ -20,7 +20,7 @@ use query_chain::{Ready, prepare, run_ready_at};
 use query_script::{Field, FieldValue};
 use std::alloc::Global;
 use step_index::Indexed;
-use text_base::{NoMemory, PageFault, PageReason, Seq, decode_page};
+use text_base::{NoMemory, PageFault, PageReason, Seq, decode_page, plain_page};
 
 /// The line of a page that is refused, or want of memory where that is the reason.
 fn refused_answer(alloc: Global, name: &str, fault: PageFault) -> Result<Line, NoMemory>
@@ -112,6 +112,11 @@ fn document_answer<S: Axes>(
     Ok(Line { text, refused })
 }
 
+/// About how many rows the text has: a guess, so that few pages ask for more room.
+fn rows_near(text: &str) -> usize {
+    text.len() / 8 + 16
+}
+
 /// The line of a page within the limit whose bytes decode to the text. Its document lies in an arena of its own, with
 /// tables over it.
 fn text_answer(
@@ -126,7 +131,8 @@ fn text_answer(
     ensures { IfOk result (λ line. IsTextLine fields.now name.now text.now (answer_of line)) }
 {
     let arena = Bump::new(alloc);
-    match read_html(alloc, text, ArenaGrow::new(&arena)) {
+    let grow = ArenaGrow::with_room(&arena, rows_near(text))?;
+    match read_html(alloc, text, grow) {
         Ok(tree) => {
             let source = Indexed::new(alloc, tree)?;
             document_answer(alloc, fields, ready, name, &source)
@@ -148,6 +154,9 @@ pub fn page_answer(
 {
     if bytes.len() > PAGE_LIMIT {
         return long_answer(alloc, name);
+    }
+    if let Some(text) = plain_page(bytes) {
+        return text_answer(alloc, fields, ready, name, text);
     }
     match decode_page(alloc, bytes) {
         Ok(text) => text_answer(alloc, fields, ready, name, text.as_str()),

@@ -11,11 +11,11 @@ static LITERAL: [&str; 6] = ["script", "style", "iframe", "xmp", "noembed", "nof
 /// The elements whose content is raw text in which they do.
 static ESCAPABLE: [&str; 2] = ["title", "textarea"];
 
-/// Whether two names differ in the case of ASCII letters alone.
+/// Whether two names differ in the case of ASCII letters alone. Most differ in length, so that is looked at first.
 fn same_letters(name: &str, other: &str) -> bool
     ensures { result ≡ str_eq_ignore_ascii_case name.now other.now }
 {
-    name.eq_ignore_ascii_case(other)
+    name.len() == other.len() && name.eq_ignore_ascii_case(other)
 }
 
 /// Whether a name is one of these, in any letter case.

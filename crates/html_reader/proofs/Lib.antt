@@ -5,6 +5,7 @@ pub mod FitLemmas
 pub mod FragmentLemmas
 pub mod PageLemmas
 pub mod StepLemmas
+pub mod TableLemmas
 pub mod CalmLemmas
 pub mod AttrLemmas
 pub mod SoundLemmas

@@ -1,8 +1,10 @@
 //! The tables by element name.
-ghost use Rattle.std.specs.Prelude.{◌≡◌, map, not};
-ghost use Rattle.html_reader.specs.Tables.{is_one_of, is_void, is_foreign, may_omit_end, start_ends, head_names, is_listed};
+ghost use Rattle.std.specs.Prelude.{◌≡◌, map, not, true};
+ghost use Rattle.html_reader.specs.Tables.{is_one_of, is_void, is_foreign, may_omit_end, start_ends, head_names, is_listed, are_apart};
 ghost use Rattle.html_reader.specs.Tokens.{texts};
 ghost use Rattle.html_reader.specs.Views.{ending_of};
+
+use text_base::is_same;
 
 static VOID: [&str; 14] = [
     "area", "base", "br", "col", "embed", "hr", "img", "input", "link", "meta", "param", "source",
@@ -13,7 +15,7 @@ fn is_one_of(names: &[&str], name: &str) -> bool
     ensures { result ≡ is_one_of (texts names.now) name.now }
 {
     for entry in names {
-        if *entry == name {
+        if is_same(entry, name) {
             return true;
         }
     }
@@ -24,7 +26,7 @@ fn is_one_of(names: &[&str], name: &str) -> bool
 pub fn is_void(name: &str) -> bool
     ensures { result ≡ is_void name.now }
 {
-    is_one_of(&VOID, name)
+    name.len() >= 2 && name.len() <= 6 && is_one_of(&VOID, name)
 }
 
 static FOREIGN: [&str; 2] = ["svg", "math"];
@@ -163,12 +165,14 @@ fn ends_head(name: &str) -> bool
     !is_one_of(&HEAD, name)
 }
 
+/// Whether the start tag is listed for the open element, which no two of the entries have.
 fn is_listed(endings: &[Ending], element: &str, name: &str) -> bool
+    requires { are_apart (map ending_of endings.now) ≡ true }
     ensures { result ≡ is_listed (map ending_of endings.now) element.now name.now }
 {
     for ending in endings {
-        if is_one_of(ending.opens, element) && is_one_of(ending.tags, name) {
-            return true;
+        if is_one_of(ending.opens, element) {
+            return is_one_of(ending.tags, name);
         }
     }
     false

@@ -3,7 +3,7 @@ ghost use Rattle.std.specs.Prelude.{◌≡◌, OnOk};
 ghost use Rattle.std.specs.List.{list_any};
 ghost use Rattle.std.specs.Str.{chars};
 ghost use Rattle.markup_out.specs.Adding.{Adds};
-ghost use Rattle.markup_out.specs.Escapes.{text_escape, value_escape, escape, is_special, escaped};
+ghost use Rattle.markup_out.specs.Escapes.{text_escape, value_escape, escape, is_mark, escaped};
 
 use crate::output::Output;
 use text_base::NoMemory;
@@ -45,17 +45,24 @@ fn push_char(out: &mut Output, back: bool, quoted: bool, c: char) -> Result<(), 
     }
 }
 
-/// Whether a reference may stand for the character.
-fn is_special(c: char) -> bool
-    ensures { result ≡ is_special c }
+/// Whether the byte begins a character for which a reference may stand: it is that character, or the first of the two
+/// bytes of a no-break space.
+fn is_mark(b: u8) -> bool
+    ensures { result ≡ is_mark b }
 {
-    matches!(c, '&' | '<' | '>' | '"' | '\u{a0}' | '\r')
+    matches!(b, b'&' | b'<' | b'>' | b'"' | b'\r' | 0xc2)
 }
 
-fn has_special(text: &str) -> bool
-    ensures { result ≡ list_any is_special (chars text.now) }
+/// Whether a reference may be wanted in the text.
+fn has_mark(text: &str) -> bool
+    ensures { result ≡ list_any is_mark text.now }
 {
-    text.chars().any(|c| is_special(c))
+    for b in text.as_bytes() {
+        if is_mark(*b) {
+            return true;
+        }
+    }
+    false
 }
 
 fn push_each(out: &mut Output, back: bool, quoted: bool, text: &str) -> Result<(), NoMemory>
@@ -71,7 +78,7 @@ fn push_each(out: &mut Output, back: bool, quoted: bool, text: &str) -> Result<(
 pub fn push_escaped(out: &mut Output, back: bool, quoted: bool, text: &str) -> Result<(), NoMemory>
     ensures { OnOk result (Adds out.old out.new (escaped back quoted (chars text.now))) }
 {
-    if has_special(text) {
+    if has_mark(text) {
         push_each(out, back, quoted, text)
     } else {
         out.push(text)

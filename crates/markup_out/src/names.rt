@@ -4,6 +4,8 @@ ghost use Rattle.std.specs.Str.{chars};
 ghost use Rattle.markup_out.specs.Names.{is_one_of, is_void, is_raw, takes_newline};
 ghost use Rattle.markup_out.specs.Views.{texts};
 
+use text_base::is_same;
+
 static VOID: [&str; 14] = [
     "area", "base", "br", "col", "embed", "hr", "img", "input", "link", "meta", "param", "source",
     "track", "wbr",
@@ -17,7 +19,7 @@ fn is_one_of(names: &[&str], name: &str) -> bool
     ensures { result ≡ is_one_of (texts names.now) name.now }
 {
     for entry in names {
-        if *entry == name {
+        if is_same(entry, name) {
             return true;
         }
     }

@@ -1,5 +1,5 @@
 -- Elements by their names and by their attributes `id`.
-use Rattle.std.specs.Prelude.{◌≡◌, ℕ, Bool, ◌&&◌, ◌==◌, List, ◌++◌, filter, codes}
+use Rattle.std.specs.Prelude.{◌≡◌, ℕ, ◌≤◌, Bool, ◌&&◌, ◌==◌, List, ◌++◌, filter, codes}
 use Rattle.std.specs.Str.{bytes_eq}
 use Rattle.std.specs.List.{range_with_len, list_any}
 use Rattle.doc_model.specs.Document.{Document, row, rows, is_element, is_attribute, below}
@@ -32,3 +32,7 @@ has_id doc word y = is_element doc y && list_any (λ z. gives_id doc word z && (
 -- a list was made longer by the first of these rows
 abbrev pub GrowsByFront : List ℕ → List ℕ → List ℕ → Type 0
 GrowsByFront old new answer = (front : List ℕ) × (new ≡ old ++ front) × IsFront front answer
+
+-- It holds of the rows before b that pass a test, whatever the test by which the list has those before n.
+abbrev pub Before : List ℕ → ℕ → (List ℕ → Type 0) → Type 0
+Before list b Holds = (p : ℕ → Bool) (n : ℕ) → b ≤ n → list ≡ filter p (range_with_len 0 n) → Holds (filter p (range_with_len 0 b))

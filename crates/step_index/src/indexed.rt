@@ -5,7 +5,7 @@ ghost use Rattle.std.specs.Str.{chars};
 ghost use Rattle.doc_model.specs.Document.{row, rows, is_element, is_element_kind};
 ghost use Rattle.doc_model.specs.Axes.{axis_list};
 ghost use Rattle.doc_model.specs.RowLists.{IsFront};
-ghost use Rattle.step_index.specs.Named.{has_id, is_named, named, named_before, GrowsByFront};
+ghost use Rattle.step_index.specs.Named.{has_id, is_named, named, Before, GrowsByFront};
 ghost use Rattle.step_index.specs.Named as spec;
 ghost use Rattle.step_index.specs.Alike.{tally, HasAlike};
 ghost use Rattle.step_index.specs.Siblings.{HasChildren, children_before};
@@ -101,45 +101,7 @@ impl<T: Tree> Indexed<T> {
         ensures row { result ≡ slice_get (named (T.document self.now.tree) (chars name.now)) k }
         ensures one { steps.new ≡ steps.old + 1 }
     {
-        steps.tick();
-        at(self.names.under(name), k as usize)
-    }
-
-    /// The row at place `k`, from 0, of the elements of this name before row `end`.
-    fn row_before<L: Ledger>(
-        &self,
-        name: &str,
-        end: u32,
-        k: u32,
-        steps: &mut Steps<L>,
-    ) -> Option<u32>
-        requires { end ≤ length (T.document self.now.tree) }
-        ensures row { result ≡ slice_get (named_before (T.document self.now.tree) (chars name.now) end) k }
-        ensures one { steps.new ≡ steps.old + 1 }
-    {
-        match self.row_at(name, k, steps) {
-            Some(y) => { if y < end { Some(y) } else { None } }
-            None => None,
-        }
-    }
-
-    /// How many elements of this name stand before row `end`, by halving.
-    fn count_before<L: Ledger>(&self, name: &str, end: u32, steps: &mut Steps<L>) -> u32
-        requires { end ≤ length (T.document self.now.tree) }
-        ensures count { result ≡ length (named_before (T.document self.now.tree) (chars name.now) end) }
-        ensures rose { steps.old ≤ steps.new }
-        ensures cost { 2 ^ (steps.new - steps.old) ≤ 2 * length (T.document self.now.tree) + 1 }
-    {
-        let mut low = 0;
-        let mut high = end;
-        while low < high {
-            let middle = low + (high - low) / 2;
-            match self.row_before(name, end, middle, steps) {
-                Some(_) => low = middle + 1,
-                None => high = middle,
-            }
-        }
-        low
+        looked_up(self.names.under(name), k, steps)
     }
 
     /// Appends the elements of this name below `x`, in document order. The steps are at most twice the answers and
@@ -158,9 +120,10 @@ impl<T: Tree> Indexed<T> {
         ensures cost { (digits : ℕ) → length (T.document self.now.tree) < 2 ^ digits
             → steps.new ≤ steps.old + (2 * (length (spec.named_below (T.document self.now.tree) x (chars name.now)) + digits) + 4) }
     {
+        let list = self.names.under(name);
         let end = self.tree.end(x);
-        let mut k = self.count_before(name, x + 1, steps);
-        while let Some(y) = self.row_before(name, end, k, steps) {
+        let mut k = count_before(list, x + 1, steps);
+        while let Some(y) = row_before(list, end, k, steps) {
             out.push(y)?;
             k += 1;
         }
@@ -282,6 +245,44 @@ fn at(rows: &[u32], k: usize) -> Option<u32>
     ensures { result ≡ slice_get rows.now k }
 {
     if k < rows.len() { Some(rows[k]) } else { None }
+}
+
+/// What stands at a place of the list. This is one step.
+fn looked_up<L: Ledger>(list: &[u32], k: u32, steps: &mut Steps<L>) -> Option<u32>
+    ensures row { result ≡ slice_get list.now k }
+    ensures one { steps.new ≡ steps.old + 1 }
+{
+    steps.tick();
+    at(list, k as usize)
+}
+
+/// The row at place `k`, from 0, of the list's rows before row `end`.
+fn row_before<L: Ledger>(list: &[u32], end: u32, k: u32, steps: &mut Steps<L>) -> Option<u32>
+    ensures row { Before list.now end (λ rows. result ≡ slice_get rows k) }
+    ensures one { steps.new ≡ steps.old + 1 }
+{
+    match looked_up(list, k, steps) {
+        Some(y) => { if y < end { Some(y) } else { None } }
+        None => None,
+    }
+}
+
+/// How many of the list's rows stand before row `end`, by halving.
+fn count_before<L: Ledger>(list: &[u32], end: u32, steps: &mut Steps<L>) -> u32
+    ensures count { Before list.now end (λ rows. result ≡ length rows) }
+    ensures rose { steps.old ≤ steps.new }
+    ensures cost { 2 ^ (steps.new - steps.old) ≤ 2 * end + 1 }
+{
+    let mut low = 0;
+    let mut high = end;
+    while low < high {
+        let middle = low + (high - low) / 2;
+        match row_before(list, end, middle, steps) {
+            Some(_) => low = middle + 1,
+            None => high = middle,
+        }
+    }
+    low
 }
 
 /// Whether the row is an element of this name.

@@ -4,7 +4,7 @@ ghost use Rattle.std.specs.Prelude.{◌≡◌, ◌<◌, ◌+◌, ℕ};
 use std::marker::Model;
 use std::sync::ledger::{Blank, Book, Ledger, Share};
 
-/// How many rows were looked up. It takes no bytes, and in this crate only `Indexed::row_at` raises it.
+/// How many rows were looked up. It takes no bytes, and in this crate only a look at one place of a list raises it.
 #[derive(Drop)]
 pub struct Steps<L: Ledger> {
     book: Book<L>,

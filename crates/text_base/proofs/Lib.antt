@@ -3,6 +3,7 @@ pub mod CharacterLemmas
 pub mod NewlineLemmas
 pub mod NewlinePlaces
 pub mod Places
+pub mod PlainLemmas
 pub mod Runs
 pub mod Text
 pub mod Walks

@@ -57,6 +57,10 @@ module _ (text : List ℕ) where
   pub none_left : (i j : ℕ) → length text ≤ j → newlines_after false (drop j text) ≡ []
   none_left i j l = ap (newlines_after false) (drop_all j text l)
 
+  -- a run that ends within the text ends at a CR
+  pub cr_is : (i j : ℕ) → j ≡ run_end (is_not_byte 13) text i → j < length text → (get_or text j 0 == 13) ≡ true
+  cr_is i j e l = is_true (get_or text j 0 == 13) (subst (λ n. is_not_byte 13 (get_or text n 0) ≡ false) (sym e) (run_end_stops (is_not_byte 13) text i (omega arith)))
+
   cr_at : (i j : ℕ) → j ≡ run_end (is_not_byte 13) text i → j < length text → newlines_after false (drop j text) ≡ 10 ∷ newlines_after true (drop (j + 1) text)
   cr_at i j e l =
       let cr = is_true (get_or text j 0 == 13) (subst (λ n. is_not_byte 13 (get_or text n 0) ≡ false) (sym e) (run_end_stops (is_not_byte 13) text i (omega arith))) in

@@ -1,4 +1,4 @@
-ghost use Rattle.std.specs.Prelude.{◌≡◌, ◌+◌, ◌<◌, ◌≤◌, ◌++◌, true, false, length, drop, slice_index, OnOk, IfOk};
+ghost use Rattle.std.specs.Prelude.{◌≡◌, ◌+◌, ◌<◌, ◌≤◌, ◌++◌, true, false, length, drop, slice_index, OnOk, IfOk, IfSome, IsSome, Ok, None, ◌≢◌};
 ghost use Rattle.std.specs.String.{string_bytes};
 ghost use Rattle.std.specs.Str.Lossy.{utf8_valid_len};
 ghost use Rattle.text_base.specs.Text.{run_end, is_not_byte, IsPlace};
@@ -75,6 +75,26 @@ fn zero_place(bytes: &[u8]) -> usize
     match memchr(0, bytes) {
         Some(k) => k,
         None => bytes.len(),
+    }
+}
+
+/// The page's own bytes as its text, where they decode to themselves.
+pub fn plain_page(bytes: &[u8]) -> Option<&str>
+    ensures text { IfSome result (λ text. text.now ≡ bytes.now) }
+    ensures some { IsSome result → decoded bytes.now ≡ Ok bytes.now }
+    ensures none { result ≡ None → decoded bytes.now ≢ Ok bytes.now }
+{
+    if zero_place(bytes) < bytes.len() {
+        return None;
+    }
+    match str::from_utf8(bytes) {
+        Ok(text) => {
+            if without_mark(text).len() < text.len() || find_byte(text, b'\r', 0) < text.len() {
+                return None;
+            }
+            Some(text)
+        }
+        Err(_) => None,
     }
 }
 

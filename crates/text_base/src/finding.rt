@@ -1,5 +1,5 @@
 ghost use Rattle.std.specs.Prelude.{◌≡◌, ◌+◌, ◌<◌, ◌≤◌, ◌↔◌, IsTrue, true, length, drop, slice_index, slice_range};
-ghost use Rattle.std.specs.Str.{IsAscii};
+ghost use Rattle.std.specs.Str.{IsAscii, bytes_eq};
 ghost use Rattle.text_base.specs.Text.{is_not_byte, run_end, find_where, begins_with, IsPlace};
 
 use memchr::{memchr, memmem};
@@ -10,6 +10,13 @@ pub fn byte_at(text: &str, at: usize) -> u8
 {
     let bytes = text.as_bytes();
     if at < bytes.len() { bytes[at] } else { 0 }
+}
+
+/// Whether two texts are the same. Most differ in length or in their first byte, so these are looked at first.
+pub fn is_same(a: &str, b: &str) -> bool
+    ensures { result ≡ bytes_eq a.now b.now }
+{
+    a.len() == b.len() && byte_at(a, 0) == byte_at(b, 0) && a == b
 }
 
 /// The bytes from a place on.

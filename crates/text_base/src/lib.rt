@@ -13,8 +13,8 @@ mod txt;
 mod words;
 
 pub use characters::{char_len, char_sub};
-pub use decoding::decode_page;
-pub use finding::{byte_at, bytes_from, find_byte, find_text, part};
+pub use decoding::{decode_page, plain_page};
+pub use finding::{byte_at, bytes_from, find_byte, find_text, is_same, part};
 pub use kinds::{ByteKind, NotSpace4, Space4, Space5, is_letter, is_white, run_end};
 pub use letters::{is_space4, is_space5, lower_ascii};
 pub use memory::NoMemory;

@@ -1,6 +1,6 @@
 use crate::{
     ByteKind, NotSpace4, PageFault, PageReason, Space4, Space5, Txt, char_len, char_sub,
-    decode_page, is_space4, is_space5, lower_ascii, run_end, words_of,
+    decode_page, is_same, is_space4, is_space5, lower_ascii, plain_page, run_end, words_of,
 };
 use std::test::Fail;
 
@@ -22,6 +22,22 @@ fn decodes_pages(rt: HostRuntime) -> Result<(), Fail> {
             Some(PageFault { reason, at })
         );
     }
+    Ok(())
+}
+
+#[test]
+fn takes_plain_pages(rt: HostRuntime) -> Result<(), Fail> {
+    let plain: [&[u8]; 3] = [b"", b"a\nb", "\u{e9}\u{20ac}".as_bytes()];
+    for bytes in plain {
+        assert!(rt; plain_page(bytes).is_some());
+    }
+    let others: [&[u8]; 5] = [b"a\rb", b"a\r\n", b"\xef\xbb\xbfa", b"a\0", b"a\xff"];
+    for bytes in others {
+        assert!(rt; plain_page(bytes).is_none());
+    }
+    assert!(rt; is_same("name", "name"));
+    assert!(rt; !is_same("name", "nama"));
+    assert!(rt; !is_same("", "n"));
     Ok(())
 }
 

@@ -20,19 +20,19 @@ use Rattle.xpath_eval.specs.Contexts.{AddsNothing, Covers, IsCovered}
 use Rattle.xpath_eval.specs.Rows.{AllBelow}
 use Rattle.xpath_eval.proofs.Lists.{member_of_all, all_by_members, has-reverse}
 
-or_first : (a b : Bool) → a ≡ true → (a || b) ≡ true
+pub or_first : (a b : Bool) → a ≡ true → (a || b) ≡ true
 or_first true b h = refl
 or_first false b h = cc
 
-or_second : (a b : Bool) → b ≡ true → (a || b) ≡ true
+pub or_second : (a b : Bool) → b ≡ true → (a || b) ≡ true
 or_second true b h = refl
 or_second false b h = h
 
-both_true : (a b : Bool) → a ≡ true → b ≡ true → (a && b) ≡ true
+pub both_true : (a b : Bool) → a ≡ true → b ≡ true → (a && b) ≡ true
 both_true true b h k = k
 both_true false b h k = h
 
-not_true : (b : Bool) → b ≡ false → not b ≡ true
+pub not_true : (b : Bool) → b ≡ false → not b ≡ true
 not_true b h = ap not h
 
 pub was_false : (b : Bool) → not b ≡ true → b ≡ false
@@ -49,21 +49,21 @@ told_le a b h = leb-true a b h
 pub all_take : (i n : ℕ) (xs : List ℕ) → AllBelow n xs → AllBelow n (take i xs)
 all_take i n xs below = All-take (λ y. y < n) i xs below
 
-same_truth : (a b : Bool) → (a ≡ true → b ≡ true) → (b ≡ true → a ≡ true) → a ≡ b
+pub same_truth : (a b : Bool) → (a ≡ true → b ≡ true) → (b ≡ true → a ≡ true) → a ≡ b
 same_truth true b f g = sym (f refl)
 same_truth false true f g = g refl
 same_truth false false f g = refl
 
 -- ---- members
 
-any_member : (p : ℕ → Bool) (xs : List ℕ) → list_any p xs ≡ true → (x : ℕ) × (has x xs ≡ true) × (p x ≡ true)
+pub any_member : (p : ℕ → Bool) (xs : List ℕ) → list_any p xs ≡ true → (x : ℕ) × (has x xs ≡ true) × (p x ≡ true)
 any_member p [] h = let no : false ≡ true = h in absurd (both_ways false refl no)
 any_member p (x ∷ xs) h = elim (or_cases (p x) (list_any p xs) h) [
   | inl e ↦ (x, or_first _ _ (eq-eqb x x refl), e)
   | inr r ↦ (let m = any_member p xs r in (m.0, or_second (eqb x m.0) _ m.1, m.2))
 ]
 
-member_any : (p : ℕ → Bool) (xs : List ℕ) (x : ℕ) → has x xs ≡ true → p x ≡ true → list_any p xs ≡ true
+pub member_any : (p : ℕ → Bool) (xs : List ℕ) (x : ℕ) → has x xs ≡ true → p x ≡ true → list_any p xs ≡ true
 member_any p [] x h e = h
 member_any p (z ∷ xs) x h e = elim (or_cases (eqb z x) (has x xs) h) [
   | inl same ↦ or_first (p z) _ (ap p (eqb-true z x same) ∙ e)
@@ -83,7 +83,7 @@ told_by p y low rest false false e s f g h = g (behind low y s h)
     behind : (low y : ℕ) → eqb low y ≡ false → low ≤ y → low < y
     behind low y e h = elim (cases_lt low y) [ inl l ↦ l | inr k ↦ absurd (both_ways _ e (eq-eqb low y (omega (arith, h, k)))) ]
 
-told_from : (p : ℕ → Bool) (n low y : ℕ) → low ≤ y → y < low + n → has y (filter p (range_with_len low n)) ≡ p y
+pub told_from : (p : ℕ → Bool) (n low y : ℕ) → low ≤ y → y < low + n → has y (filter p (range_with_len low n)) ≡ p y
 told_from p zero low y h k = absurd (omega (arith, h, k))
 told_from p (suc n) low y h k =
     told_by p y low (filter p (range_with_len (low + 1) n)) (p low) (eqb low y) refl refl
@@ -96,7 +96,7 @@ has_either y false xs = refl
 
 module _ (doc : Document) where
   -- the members of an axis
-  has_axis : (x : ℕ) (a : Axis) (t : NodeTest) (y : ℕ) → y < length doc → has y (axis_list doc x a t) ≡ (on_axis doc a x y && passes doc a t y)
+  pub has_axis : (x : ℕ) (a : Axis) (t : NodeTest) (y : ℕ) → y < length doc → has y (axis_list doc x a t) ≡ (on_axis doc a x y && passes doc a t y)
   has_axis x a t y h = has_either y (is_reverse a) _ ∙ told_from (λ v. on_axis doc a x v && passes doc a t v) (length doc) 0 y (omega arith) (omega (arith, h))
 
   -- without predicates a step gives the rows of its axis

@@ -36,7 +36,7 @@ filter_twice : (p q : ℕ → Bool) (xs : List ℕ) → filter q (filter p xs) �
 filter_twice p q [] = refl
 filter_twice p q (x ∷ xs) = filter_twice_at p q x xs (p x) refl (filter_twice p q xs)
 
-filter_same : (p q : ℕ → Bool) (xs : List ℕ) → ((y : ℕ) → p y ≡ q y) → filter p xs ≡ filter q xs
+pub filter_same : (p q : ℕ → Bool) (xs : List ℕ) → ((y : ℕ) → p y ≡ q y) → filter p xs ≡ filter q xs
 filter_same p q [] h = refl
 filter_same p q (x ∷ xs) h = ap (λ b. cond b (x ∷ filter p xs) (filter p xs)) (h x) ∙ ap (λ r. cond (q x) (x ∷ r) r) (filter_same p q xs h)
 
@@ -71,7 +71,7 @@ any_and : (p : ℕ → Bool) (b : Bool) (xs : List ℕ) → list_any (λ x. p x 
 any_and p b [] = refl
 any_and p b (x ∷ xs) = ap (λ r. (p x && b) || r) (any_and p b xs) ∙ or_and (p x) (list_any p xs) b
 
-any_by : (p q : ℕ → Bool) (xs : List ℕ) → ((x : ℕ) → p x ≡ q x) → list_any p xs ≡ list_any q xs
+pub any_by : (p q : ℕ → Bool) (xs : List ℕ) → ((x : ℕ) → p x ≡ q x) → list_any p xs ≡ list_any q xs
 any_by p q [] h = refl
 any_by p q (x ∷ xs) h = ap (λ b. b || list_any p xs) (h x) ∙ ap (λ b. q x || b) (any_by p q xs h)
 

@@ -1,5 +1,6 @@
 pub mod Counting
 pub mod Covering
+pub mod Deep
 pub mod Filtering
 pub mod Gathers
 pub mod Kept

@@ -1,9 +1,12 @@
 -- Expressions that are one step.
 use Rattle.std.specs.Prelude.{◌≡◌, List, [], ◌∷◌, pos}
+use Rattle.doc_model.specs.declared.Axis.TheVariants as axis
+use Rattle.doc_model.specs.declared.NodeTest.TheVariants as test
 use Rattle.xpath_parser.specs.declared.expression.Expr.{Expr}
 use Rattle.xpath_parser.specs.declared.expression.Expr.TheVariants.{Path, Number}
 use Rattle.xpath_parser.specs.declared.expression.Start.TheVariants.{Here}
 use Rattle.xpath_parser.specs.declared.expression.Step.{Step, out-Step}
+use Rattle.xpath_eval.specs.Tests.{AreTests}
 
 -- the expressions are one path of one step from the context row, without predicates
 pub record IsLoneStep (es : List Expr) (s : Step) : Type 0 where
@@ -23,3 +26,14 @@ pub record IsLonePath (e : Expr) (s : Step) : Type 0 where
 -- the first predicate is the number 1
 abbrev pub BeginsWithOne : List Expr → Type 0
 BeginsWithOne ps = (more : List Expr) × (ps ≡ Number (pos 1) ∷ more)
+
+-- the step that `//` stands for: a row and all rows below it
+pub record IsAllBelow (s : Step) : Type 0 where
+  pub axis : (out-Step s).axis ≡ axis.DescendantOrSelf
+  pub test : (out-Step s).test ≡ test.Node
+  pub plain : (out-Step s).predicates ≡ []
+
+-- a step to children whose predicates ask about the row alone
+pub record IsTestedChild (s : Step) : Type 0 where
+  pub axis : (out-Step s).axis ≡ axis.Child
+  pub tests : AreTests (out-Step s).predicates

@@ -1,6 +1,9 @@
 //! The value of an expression at a place. Only brackets nest, so only through them a function here leads to itself.
 ghost use Rattle.std.specs.Prelude.{◌≡◌, ◌<◌, ◌≤◌, length, map, IfOk, OnOk};
 ghost use Rattle.std.specs.List.{list_any, list_all};
+ghost use Rattle.doc_model.specs.Axes.{axis_list};
+ghost use Rattle.doc_model.specs.declared.Axis.TheVariants as axis;
+ghost use Rattle.xpath_parser.specs.declared.expression.Step.{out-Step};
 ghost use Rattle.xpath_parser.specs.Conversions as conversions;
 ghost use Rattle.xpath_parser.specs.Conversions.{rows_of};
 ghost use Rattle.xpath_parser.specs.Denote as spec;
@@ -10,12 +13,13 @@ ghost use Rattle.xpath_eval.specs.Rows.{AreRows, AllBelow};
 
 use crate::axis_steps::axis_from;
 use crate::counts::{axis_number, is_count, lone_path, lone_step, only};
+use crate::deep_steps::{is_all_below, is_tested_child};
 use crate::forms::{applied, keeps, literal_number, nodes, put_if, rows_of_nodes, signed};
 use crate::ordering::{add, add_list, ordered};
 use crate::place::Place;
 use crate::step_rows::step_rows;
 use crate::tests_of_rows::are_tests;
-use doc_model::Axes;
+use doc_model::{Axes, Axis};
 use std::alloc::Global;
 use text_base::{NoMemory, Seq, Txt};
 use xpath_functions::{call, number_of, truth_of};
@@ -203,10 +207,34 @@ fn path<S: Axes>(
     ensures { IfOk result (λ found. found ≡ spec.path (S.document source.now) start (map (spec.walk_of (S.document source.now)) steps.now)) }
 {
     let mut rows = start;
-    for step in steps {
-        rows = after(alloc, source, rows.as_slice(), step)?;
+    let mut i = 0;
+    while i < steps.len() {
+        if i + 1 < steps.len() && is_all_below(&steps[i]) && is_tested_child(&steps[i + 1]) {
+            rows = all_below(alloc, source, rows.as_slice(), &steps[i + 1])?;
+            i += 2;
+        } else {
+            rows = after(alloc, source, rows.as_slice(), &steps[i])?;
+            i += 1;
+        }
     }
     Ok(rows)
+}
+
+/// The rows below the rows that pass the test and the predicates of the step, whatever its axis.
+#[cycle(evaluation)]
+fn all_below<S: Axes>(
+    alloc: Global,
+    source: &S,
+    rows: &[u32],
+    step: &Step,
+) -> Result<Seq<u32>, NoMemory>
+    requires { AllBelow (length (S.document source.now)) rows.now }
+    ensures { IfOk result (λ found. found ≡ spec.kept (map (spec.denote (S.document source.now)) (out-Step step.now).predicates)
+        (spec.rows_in (S.document source.now) rows.now (λ x. axis_list (S.document source.now) x axis.Descendant (out-Step step.now).test))) }
+{
+    let mut found = axis_from(alloc, source, rows, Axis::Descendant, &step.test)?;
+    filtered(alloc, source, &mut found, step.predicates.as_slice())?;
+    Ok(Seq::from_vec(found))
 }
 
 /// The rows of a step from the rows together. Predicates that ask about the row alone are asked once for each row that

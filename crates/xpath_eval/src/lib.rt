@@ -22,6 +22,7 @@
 mod axis_steps;
 mod contexts;
 mod counts;
+mod deep_steps;
 mod evaluation;
 mod forms;
 mod ordering;

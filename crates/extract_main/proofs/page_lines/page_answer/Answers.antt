@@ -7,8 +7,8 @@ use Rattle.extract_main.proofs.page_lines.page_answer.Goals as goal
 pub returns-then-bytes-gt-PAGE_LIMIT : goal.returns-then-bytes-gt-PAGE_LIMIT
 returns-then-bytes-gt-PAGE_LIMIT c = long_line c.args.fields.now c.args.name.now c.args.bytes.now c.long_answer.result c.if-bytes-gt-PAGE_LIMIT.true c.long_answer.ensures
 
-pub text_answer-requires-clause-short : goal.text_answer-requires-clause-short
-text_answer-requires-clause-short c =
+pub text_answer-requires-in-Ok-clause-short : goal.text_answer-requires-in-Ok-clause-short
+text_answer-requires-in-Ok-clause-short c =
     let short = decoded_short c.args.bytes.now (string_bytes c.in-Ok.text) c.in-Ok.ensures in
     let same : length c.as_str.result.now ≡ length (string_bytes c.in-Ok.text) = ap length c.as_str.ensures.value in
     let most : length c.args.bytes.now ≤ most_page = c.if-bytes-gt-PAGE_LIMIT.false in

@@ -5,6 +5,7 @@ use Rattle.std.proofs.lemmas.List.{take_more}
 use Rattle.std.proofs.lemmas.List.Elements.{All-append, All-cons, All-nil}
 use Rattle.doc_model.specs.RowLists.{has, Run}
 use Rattle.doc_model.specs.Axes.{axis_list}
+use Rattle.doc_model.specs.declared.Axis.TheVariants as axis
 use Rattle.xpath_values.specs.declared.value.Value.{Value}
 use Rattle.xpath_values.specs.declared.value.Value.TheVariants.{Nodes, Num, Str, Bool as Truth}
 use Rattle.xpath_parser.specs.declared.expression.Expr.{Expr}
@@ -19,9 +20,10 @@ use Rattle.xpath_functions.specs.Rows.{AreWithin, IsWithin}
 use Rattle.xpath_eval.specs.Places.{context}
 use Rattle.xpath_eval.specs.Rows.{AreRows, AllBelow}
 use Rattle.xpath_values.specs.Numbers.{whole}
-use Rattle.xpath_eval.specs.Steps.{IsLoneStep}
+use Rattle.xpath_eval.specs.Steps.{IsLoneStep, IsTestedChild}
 use Rattle.xpath_eval.specs.Tests.{AreTests}
 use Rattle.xpath_eval.proofs.Counting as counting
+use Rattle.xpath_eval.proofs.Deep as deep
 use Rattle.xpath_eval.proofs.Filtering as filtering
 use Rattle.xpath_eval.proofs.Gathers as gathers
 use Rattle.xpath_eval.proofs.Kept as kept
@@ -84,23 +86,47 @@ filtered-loop-predicate-preserved g t c =
       few = subst (λ v. length v ≤ length doc) (sym is) (omega (arith, few, fewer));
     }
 
-pub path-loop-step-preserved : goal.path-loop-step-preserved
-path-loop-step-preserved g t c =
+pub path-loop-i-preserved-then-is_tested_child : goal.path-loop-i-preserved-then-is_tested_child
+path-loop-i-preserved-then-is_tested_child g t c =
     let doc = g.S.Tree.document c.args.source.now in
     let ss = c.args.steps.now in
-    let i = c.loop-step.step-index in
-    let s = c.step-item.result in
-    let is : c.in_ok-rows.rows ≡ spec.rows_in doc c.loop-step.rows (spec.walk_of doc s) = c.in_ok-rows.ensures ∙ ap (λ v. spec.rows_in doc v (spec.walk_of doc s)) c.as_slice.ensures in
-    let run : AreRows doc c.in_ok-rows.rows = subst (AreRows doc) (sym is) (gathers.rows_in_run doc c.loop-step.rows (spec.walk_of doc s)) in
+    let i = c.loop-i.i in
+    let first = c.index-steps-i.result in
+    let asked = c.index-steps-i-then-is_all_below.result in
+    let second = c.index-steps-i-then-is_tested_child.result in
+    let rest = lists.drop_at ss (i + 1) second c.index-steps-i-then-is_tested_child.is c.if-i-steps.true in
+    let same : second ≡ asked = ap (λ (v : List Step). get_or v 0 asked) (sym rest ∙ lists.drop_at ss (i + 1) asked c.index-steps-i-then-is_all_below.is c.if-i-steps.true) in
+    let cut : drop i ss ≡ first ∷ second ∷ drop (i + 2) ss =
+    lists.drop_at ss i first c.index-steps-i.is c.loop-i-test.true ∙ ap (λ v. first ∷ v) (rest ∙ ap (λ k. second ∷ drop k ss) (omega arith)) in
+    let is : c.in_ok-rows.rows ≡ spec.rows_in doc (spec.rows_in doc c.loop-i.rows (spec.walk_of doc first)) (spec.walk_of doc second) =
+    c.in_ok-rows.ensures
+    ∙ ap (λ v. spec.kept (map (spec.denote doc) (out-Step second).predicates) (spec.rows_in doc v (λ x. axis_list doc x axis.Descendant (out-Step second).test))) c.as_slice.ensures
+    ∙ deep.tested_below doc first second c.loop-i.rows (g.met.S.Tree.is_document c.args.source.now) (c.is_all_below.ensures c.if-is_all_below.true) (subst IsTestedChild (sym same) (c.is_tested_child.ensures c.if-is_tested_child.true)) in
+    let run : AreRows doc c.in_ok-rows.rows = subst (AreRows doc) (sym is) (gathers.rows_in_run doc (spec.rows_in doc c.loop-i.rows (spec.walk_of doc first)) (spec.walk_of doc second)) in
     record {
-      path = ap (λ v. spec.path doc v (map (spec.walk_of doc) (drop (i + 1) ss))) is
-          ∙ ap (λ v. spec.path doc c.loop-step.rows (map (spec.walk_of doc) v)) (sym (lists.drop_at ss i s c.step-item.is c.loop-step-test.true)) ∙ c.loop-step.invariant.path;
+      path = ap (λ v. spec.path doc v (map (spec.walk_of doc) (drop (i + 2) ss))) is
+          ∙ ap (λ v. spec.path doc c.loop-i.rows (map (spec.walk_of doc) v)) (sym cut) ∙ c.loop-i.invariant.path;
       rows = run;
       below = lists.run_below 0 (length doc) c.in_ok-rows.rows run;
     }
 
-pub path-loop-step-init : goal.path-loop-step-init
-path-loop-step-init g t c = let doc = g.S.Tree.document c.args.source.now in record { path = refl; rows = c.requires; below = lists.run_below 0 (length doc) c.args.start c.requires }
+pub path-loop-i-preserved : goal.path-loop-i-preserved
+path-loop-i-preserved g t c =
+    let doc = g.S.Tree.document c.args.source.now in
+    let ss = c.args.steps.now in
+    let i = c.loop-i.i in
+    let s = c.index-steps-i-else-i-steps.result in
+    let is : c.in_ok-rows-2.rows ≡ spec.rows_in doc c.loop-i.rows (spec.walk_of doc s) = c.in_ok-rows-2.ensures ∙ ap (λ v. spec.rows_in doc v (spec.walk_of doc s)) c.as_slice-else-i-steps.ensures in
+    let run : AreRows doc c.in_ok-rows-2.rows = subst (AreRows doc) (sym is) (gathers.rows_in_run doc c.loop-i.rows (spec.walk_of doc s)) in
+    record {
+      path = ap (λ v. spec.path doc v (map (spec.walk_of doc) (drop (i + 1) ss))) is
+          ∙ ap (λ v. spec.path doc c.loop-i.rows (map (spec.walk_of doc) v)) (sym (lists.drop_at ss i s c.index-steps-i-else-i-steps.is c.loop-i-test.true)) ∙ c.loop-i.invariant.path;
+      rows = run;
+      below = lists.run_below 0 (length doc) c.in_ok-rows-2.rows run;
+    }
+
+pub path-loop-i-init : goal.path-loop-i-init
+path-loop-i-init g t c = let doc = g.S.Tree.document c.args.source.now in record { path = refl; rows = c.requires; below = lists.run_below 0 (length doc) c.args.start c.requires }
 
 pub values-loop-e-preserved : goal.values-loop-e-preserved
 values-loop-e-preserved g t c =

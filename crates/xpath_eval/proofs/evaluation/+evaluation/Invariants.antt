@@ -41,14 +41,17 @@ invariant-union-loop-e g l =
     let doc = g.S.Tree.document l.source in
     Gathered (length doc) (take l.e-index l.es) (λ (e : Expr). conversions.rows_of (spec.denote doc e (context l.place))) l.found.items
 
-abbrev pub invariant-path-loop-step : goal.invariant-path-loop-step
-invariant-path-loop-step g l =
+abbrev pub invariant-path-loop-i : goal.invariant-path-loop-i
+invariant-path-loop-i g l =
     let doc = g.S.Tree.document l.source in
     record {
-      path : spec.path doc l.rows (map (spec.walk_of doc) (drop l.step-index l.steps)) ≡ spec.path doc l.fn.start (map (spec.walk_of doc) l.steps);
+      path : spec.path doc l.rows (map (spec.walk_of doc) (drop l.i l.steps)) ≡ spec.path doc l.fn.start (map (spec.walk_of doc) l.steps);
       rows : AreRows doc l.rows;
       below : AllBelow (length doc) l.rows;
     }
+
+abbrev pub decreases-path-loop-i : goal.decreases-path-loop-i
+decreases-path-loop-i g l = length l.steps - l.i
 
 abbrev pub invariant-from_each-loop-x : goal.invariant-from_each-loop-x
 invariant-from_each-loop-x g l =

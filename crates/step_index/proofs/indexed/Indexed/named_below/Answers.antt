@@ -1,4 +1,4 @@
-use Rattle.std.proofs.Common.{◌+◌, ◌-◌, length, arith, sym}
+use Rattle.std.proofs.Common.{◌+◌, ◌-◌, length, arith, sym, ◌∙◌}
 use Rattle.std.specs.Str.{chars}
 use Rattle.doc_model.proofs.Runs.{on_err}
 use Rattle.step_index.specs.Named.{is_named, named_before, named_below}
@@ -23,13 +23,13 @@ pub overflow_add-k : goal.overflow_add-k
 overflow_add-k g c =
     let doc = g.T.Tree.document c.args.self.now.tree in
     let name = chars c.args.name.now in
-    omega (arith, places.within_some (named_before doc name c.end-end.result) c.loop-y.k c.in-Some.y (sym c.in-Some.ensures.row), places.filter_le (is_named doc name) c.end-end.result 0, c.end-end.type_inv)
+    omega (arith, places.within_some (named_before doc name c.end-end.result) c.loop-y.k c.in-Some.y (sym (c.in-Some.ensures.row (is_named doc name) (length doc) c.end-end.ensures.within (c.under-list.ensures ∙ c.args.self.now.named c.args.name.now c.utf8.name))), places.filter_le (is_named doc name) c.end-end.result 0, c.end-end.type_inv)
 
 pub loop-y-smaller : goal.loop-y-smaller
 loop-y-smaller g c =
     let doc = g.T.Tree.document c.args.self.now.tree in
     let name = chars c.args.name.now in
-    omega (arith, places.within_some (named_before doc name c.end-end.result) c.loop-y.k c.in-Some.y (sym c.in-Some.ensures.row))
+    omega (arith, places.within_some (named_before doc name c.end-end.result) c.loop-y.k c.in-Some.y (sym (c.in-Some.ensures.row (is_named doc name) (length doc) c.end-end.ensures.within (c.under-list.ensures ∙ c.args.self.now.named c.args.name.now c.utf8.name))))
 
 pub loop-y-preserved : goal.loop-y-preserved
 loop-y-preserved g c =
@@ -38,7 +38,7 @@ loop-y-preserved g c =
     let inv = c.loop-y.invariant in
     let front = length (named_before doc name (c.args.x + 1)) in
     let answers = named_below doc c.args.x name in
-    let next = places.next_answer doc c.args.x c.end-end.result c.loop-y.k c.in-Some.y name (g.met.T.Tree.is_document c.args.self.now.tree) c.end-end.ensures inv.from c.in-Some.ensures.row in
+    let next = places.next_answer doc c.args.x c.end-end.result c.loop-y.k c.in-Some.y name (g.met.T.Tree.is_document c.args.self.now.tree) c.end-end.ensures inv.from (c.in-Some.ensures.row (is_named doc name) (length doc) c.end-end.ensures.within (c.under-list.ensures ∙ c.args.self.now.named c.args.name.now c.utf8.name)) in
     record {
       from = omega (arith, inv.from);
       within = omega (arith, inv.from, places.within_some answers (c.loop-y.k - front) c.in-Some.y next);
@@ -52,7 +52,7 @@ returns-clause-ok g c =
     let doc = g.T.Tree.document c.args.self.now.tree in
     let name = chars c.args.name.now in
     places.all_found c.args.out.now.items c.loop-y.out.items (named_below doc c.args.x name) (c.loop-y.k - length (named_before doc name (c.args.x + 1)))
-    (places.no_answer doc c.args.x c.end-end.result c.loop-y.k name (g.met.T.Tree.is_document c.args.self.now.tree) c.end-end.ensures c.in_default.ensures.row) c.loop-y.invariant.found
+    (places.no_answer doc c.args.x c.end-end.result c.loop-y.k name (g.met.T.Tree.is_document c.args.self.now.tree) c.end-end.ensures (c.in_default.ensures.row (is_named doc name) (length doc) c.end-end.ensures.within (c.under-list.ensures ∙ c.args.self.now.named c.args.name.now c.utf8.name))) c.loop-y.invariant.found
 
 pub returns-clause-cost : goal.returns-clause-cost
 returns-clause-cost g c =
