@@ -80,6 +80,8 @@ pub enum SelectorFault {
     UnknownPseudo,
     /// A pseudo-element that is not known, or out of its place.
     PseudoElement,
+    /// A choice inside eight others.
+    Nested,
     /// A class that counts by type, without a type.
     OfType,
     /// A number beyond a million in size.
@@ -102,6 +104,7 @@ impl SelectorFault {
             SelectorFault::Prefix => "Prefix",
             SelectorFault::UnknownPseudo => "UnknownPseudo",
             SelectorFault::PseudoElement => "PseudoElement",
+            SelectorFault::Nested => "Nested",
             SelectorFault::OfType => "OfType",
             SelectorFault::Number => "Number",
             SelectorFault::XPathLong => "XPathLong",
