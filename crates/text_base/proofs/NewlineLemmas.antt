@@ -63,9 +63,8 @@ module _ (text : List ℕ) where
 
   cr_at : (i j : ℕ) → j ≡ run_end (is_not_byte 13) text i → j < length text → newlines_after false (drop j text) ≡ 10 ∷ newlines_after true (drop (j + 1) text)
   cr_at i j e l =
-      let cr = is_true (get_or text j 0 == 13) (subst (λ n. is_not_byte 13 (get_or text n 0) ≡ false) (sym e) (run_end_stops (is_not_byte 13) text i (omega arith))) in
       ap (newlines_after false) (drop_more text j 0 l)
-      ∙ ap (λ b. cond b (10 ∷ newlines_after true (drop (j + 1) text)) (get_or text j 0 ∷ newlines_after false (drop (j + 1) text))) cr
+      ∙ ap (λ b. cond b (10 ∷ newlines_after true (drop (j + 1) text)) (get_or text j 0 ∷ newlines_after false (drop (j + 1) text))) (cr_is i j e l)
 
   -- after a CR
   after_lf : (j : ℕ) → get_or text (j + 1) 0 ≡ 10 → newlines_after true (drop (j + 1) text) ≡ newlines_after false (drop (j + 2) text)
