@@ -1,9 +1,9 @@
 -- The first row of a list that a walk finds from its front.
 use Rattle.std.proofs.lemmas.Bool.{lt-ltb}
-use Rattle.std.proofs.Common.{◌≡◌, ℕ, suc, ◌+◌, ◌-◌, ◌<◌, ◌≤◌, List, [], ◌∷◌, ◌++◌, length, Bool, true, false, ◌&&◌, cond, refl, sym, ◌∙◌, ap, subst, arith, is_some}
+use Rattle.std.proofs.Common.{◌≡◌, ℕ, suc, ◌+◌, ◌<◌, ◌≤◌, List, [], ◌∷◌, ◌++◌, length, Bool, true, false, ◌&&◌, cond, refl, sym, ◌∙◌, ap, arith, is_some}
 use Rattle.std.specs.Prelude.{filter, reverse, Option, Some, None, slice_get, nat_lt}
 use Rattle.std.specs.List.{range_with_len}
-use Rattle.std.proofs.lemmas.List.{length-append, length-reverse, reverse-append}
+use Rattle.std.proofs.lemmas.List.{append-nil, length-reverse, reverse-append}
 use Rattle.doc_model.specs.declared.Axis.{Axis}
 use Rattle.doc_model.specs.declared.NodeTest.{NodeTest}
 use Rattle.doc_model.specs.Document.{Document, rows}
@@ -11,7 +11,7 @@ use Rattle.doc_model.specs.Axes.{passes}
 use Rattle.doc_model.specs.RowLists.{IsFront}
 use Rattle.doc_model.specs.Walks.{is_kept, chosen, IsWalk, IsNext}
 use Rattle.doc_model.proofs.Filters.{upto_front}
-use Rattle.doc_model.proofs.WalkSteps.{across_more, across_all}
+use Rattle.doc_model.proofs.WalkSteps.{across_more}
 
 -- a front of one row begins with the row
 pub first_of_front : (y : ℕ) (xs all : List ℕ) → xs ≡ y ∷ [] → IsFront xs all → Some y ≡ slice_get all 0
@@ -32,20 +32,12 @@ first_of_none xs all e f = ap (λ v. slice_get v 0) (sym e ∙ f)
 pub later_row : (before after : List ℕ) (y : ℕ) (wanted : Bool) (last : Option ℕ) → after ≡ before ++ cond wanted (y ∷ []) [] → last ≡ slice_get (reverse before) 0
     → cond wanted (Some y) last ≡ slice_get (reverse after) 0
 later_row before after y true last e h = ap (λ v. slice_get v 0) (sym (reverse-append before (y ∷ []))) ∙ ap (λ v. slice_get (reverse v) 0) (sym e)
-later_row before after y false last e h = h ∙ ap (λ v. slice_get (reverse v) 0) (sym (append_none before) ∙ sym e)
-  where
-    append_none : (xs : List ℕ) → xs ++ [] ≡ xs
-    append_none [] = refl
-    append_none (x ∷ xs) = ap (λ v. x ∷ v) (append_none xs)
+later_row before after y false last e h = h ∙ ap (λ v. slice_get (reverse v) 0) (sym (append-nil before) ∙ sym e)
 
 -- whether there is a first row
 pub some_first : (xs : List ℕ) → is_some (slice_get xs 0) ≡ nat_lt 0 (length xs)
 some_first [] = refl
 some_first (x ∷ xs) = sym (lt-ltb 0 (suc (length xs)) (omega arith))
-
--- a list that is turned has as many
-pub some_turned : (xs : List ℕ) → is_some (slice_get xs 0) ≡ nat_lt 0 (length (reverse xs))
-some_turned xs = some_first xs ∙ ap (nat_lt 0) (sym (length-reverse xs))
 
 -- the next row, which no row stands before
 next_row : (doc : Document) (hops : Bool) (y : ℕ) → y < length doc → IsNext doc hops y (y + 1)

@@ -18,6 +18,31 @@ fn list<S: Axes>(
     Ok((out, count as usize))
 }
 
+/// The first row on an axis, where one is there.
+fn first<S: Axes>(tree: &S, x: u32, axis: Axis) -> Option<u32> {
+    if x < tree.len() && tree.axis_any(x, axis, &NodeTest::Node) {
+        return tree.axis_first(x, axis, &NodeTest::Node);
+    }
+    None
+}
+
+#[test]
+fn finds_the_nearest_row(rt: HostRuntime) {
+    let tree = Plain::new(build_worked(VecGrow::new(rt.alloc())).expect(&rt, "memory"));
+    for (x, axis, want) in [
+        (6, Axis::Ancestor, Some(5)),
+        (6, Axis::Preceding, Some(4)),
+        (0, Axis::OwnSelf, Some(0)),
+        (1, Axis::Child, Some(3)),
+        (5, Axis::PrecedingSibling, Some(4)),
+        (0, Axis::Ancestor, None),
+        (3, Axis::Child, None),
+        (5, Axis::Following, None),
+    ] {
+        assert_eq!(rt; first(&tree, x, axis), want, "{axis:?} of {x}");
+    }
+}
+
 #[test]
 fn lists_axes(rt: HostRuntime) {
     let tree = Plain::new(build_worked(VecGrow::new(rt.alloc())).expect(&rt, "memory"));
