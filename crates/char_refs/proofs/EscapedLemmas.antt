@@ -84,9 +84,6 @@ cr_char : body_char (codes "#13") ≡ Some 13
 unfolding replaced
 cr_char = refl
 
-no_semi : (body : List ℕ) → AllPass (is_not_byte 59) body → AllPass (is_not_byte 59) body
-no_semi body h = h
-
 passes3 : (a b c : ℕ) → is_not_byte 59 a ≡ true → is_not_byte 59 b ≡ true → is_not_byte 59 c ≡ true → AllPass (is_not_byte 59) (a ∷ (b ∷ (c ∷ [])))
 passes3 a b c x y z zero d l = x
 passes3 a b c x y z (suc zero) d l = y
