@@ -105,10 +105,6 @@ begins_no part s h = is_false (begins_with part s) (λ e. h ((bytes_eq-Decides (
 begins_yes : (part y : List ℕ) → begins_with part (part ++ y) ≡ true
 begins_yes part y = (bytes_eq-Decides (take (length part) (part ++ y)) part).1 (take-append_seam part y)
 
--- the third byte, and others, of two lists that are the same
-second_of : (a b c x y z : ℕ) (r t : List ℕ) → a ∷ b ∷ c ∷ r ≡ x ∷ y ∷ z ∷ t → (a ≡ x) × (b ≡ y) × (c ≡ z)
-second_of a b c x y z r t e = (ap (λ l. get_or l 0 0) e, ap (λ l. get_or l 1 0) e, ap (λ l. get_or l 2 0) e)
-
 -- the marks that end a comment are first found behind its text
 close_first : (s y : List ℕ) → (Holds s (codes "-->") → ⊥) → first_place (begins_with (codes "-->")) (s ++ (codes "-->" ++ y)) ≡ length s
 close_first [] y h = ap (λ b. cond b 0 (1 + first_place (begins_with (codes "-->")) (codes "->" ++ y))) (begins_yes (codes "-->") y)
@@ -291,9 +287,6 @@ both_parts false b h = cc
 
 eqb_is : (a b : ℕ) → (a == b) ≡ true → a ≡ b
 eqb_is a b h = grind (arith, nat_tests)
-
-leb_is : (a b : ℕ) → leb a b ≡ true → a ≤ b
-leb_is a b h = grind (arith, nat_tests)
 
 is_leb : (a b : ℕ) → a ≤ b → leb a b ≡ true
 is_leb a b l = grind (arith, nat_tests)
