@@ -4,7 +4,7 @@ use Rattle.std.proofs.Common.{IsTrue, ◌||◌, ◌&&◌, eqb, ◌≡◌, ℕ, z
 use Rattle.std.proofs.Common.{◌-◌, Option, Some, None, option_to_list, IsSome, ◌↔◌}
 use Rattle.html_reader.specs.Parents.{Small, Within}
 use Rattle.html_reader.proofs.CalmLemmas.{within_flushed}
-use Rattle.std.proofs.lemmas.List.{get_or_append_left, map-append, length-map, take_more}
+use Rattle.std.proofs.lemmas.List.{get_or_append_left, length-map}
 use Rattle.html_reader.specs.declared.token.Attr as code
 use Rattle.doc_model.specs.declared.Kind.{Kind}
 use Rattle.doc_model.specs.declared.Kind.TheVariants.{Element, Attribute}
@@ -15,7 +15,7 @@ use Rattle.html_reader.specs.Places.{Grown, below}
 use Rattle.doc_model.specs.Growing.{innermost}
 use Rattle.html_reader.specs.Machine.{held, settled, state, with_some, opened, closed, without_first}
 use Rattle.html_reader.specs.declared.reader.Root.{Root}
-use Rattle.doc_model.specs.Growing.{Growing, growing, with_attr, with_text, with_comment, with_element, with_close, rest_of, AwaitsAttr}
+use Rattle.doc_model.specs.Growing.{Growing, growing, with_text, with_comment, with_element, with_close, rest_of, AwaitsAttr}
 use Rattle.html_reader.specs.Kept.{IsNew, AreKept, EndsInElement}
 use Rattle.html_reader.specs.Pieces.{owned_bytes}
 use Rattle.std.specs.Str.{chars}
@@ -129,16 +129,6 @@ awaits g h attrs k d name e kept is l named =
       follows = subst (λ n. IsTrue (eqb n (length h.rows - 1) || (is_attribute h.rows (length h.rows - 1) && eqb (row h.rows (length h.rows - 1)).parent n))) (sym at) (follows_at front e.parent (length front) tag h.rows ends refl);
       new = λ j lj kind par same. new_behind front e.parent (length front) tag (owned_bytes (get_or attrs k d).name) h.rows j e.small ends refl (kept_new attrs k d kept l) lj kind (par ∙ at) (same ∙ named);
     }
-
-pub attr_more : (g h new : Growing) (attrs : List code.Attr) (k : ℕ) (d : code.Attr) → h ≡ attrs_grown g (take k attrs) → k < length attrs
-    → (name value : List ℕ) → name ≡ chars (owned_bytes (get_or attrs k d).name) → value ≡ chars (owned_bytes (get_or attrs k d).value) → new ≡ with_attr h name value → new ≡ attrs_grown g (take (k + 1) attrs)
-attr_more g h new attrs k d is l name value named valued e =
-    let f = row_of_attribute (innermost g.open_rows) in
-    let a = get_or attrs k d in
-    e ∙ (λ i. with_attr (is i) (named i) (valued i))
-    ∙ ap (λ r. growing r g.open_rows) (append_assoc g.rows (map f (map attr_of (take k attrs))) (f (attr_of a) ∷ []))
-    ∙ ap (λ r. growing (g.rows ++ r) g.open_rows)
-    (sym (ap (λ x. map f (map attr_of x)) (take_more attrs k d l) ∙ ap (map f) (map-append attr_of (take k attrs) (a ∷ [])) ∙ map-append f (map attr_of (take k attrs)) (attr_of a ∷ [])))
 
 pub attr_room : (g h : Growing) (attrs : List code.Attr) (k : ℕ) → h ≡ attrs_grown g (take k attrs) → k ≤ length attrs → length h.rows ≡ length g.rows + k
 attr_room g h attrs k is l =

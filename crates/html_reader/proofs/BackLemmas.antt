@@ -32,7 +32,7 @@ Written tags nothing = Unit {0}
 Written tags (then_leaf leaf rest) = (is_shut tags (Some (holds leaf)) ≡ false) × ((is_empty tags && not (is_white_leaf leaf)) ≡ false) × Written tags rest
 Written tags (then_element tag inside inserted rest) =
     (is_shut tags (Some (starts tag)) ≡ false) × (tag.slash ≡ false) × (inserted ≡ is_void tag.name) × (is_void tag.name ≡ true → inside ≡ nothing)
-    × (length tags < 513) × Written (tag ∷ tags) inside × Written tags rest
+    × (length tags < most_open false) × Written (tag ∷ tags) inside × Written tags rest
 
 -- with no tag open one element may come at most
 abbrev pub Rooted : List Tag → Bool → Forest → Type 0
@@ -76,12 +76,12 @@ pick_yes false x y h = cc
 free_leaf : (s : State) (leaf : Leaf) → (is_empty s.tags && not (is_white_leaf leaf)) ≡ false → step s (holds leaf) ≡ Ok (held s leaf)
 free_leaf s leaf h = pick_no (not s.rooted.made && (is_empty s.tags && not (is_white_leaf leaf))) _ _ (and_false (not s.rooted.made) _ h)
 
-free_start : (s : State) (tag : Tag) → s.rooted.made ≡ false → (is_empty s.tags && s.rooted.some) ≡ false → length s.tags < 513 → step s (starts tag) ≡ Ok (opened s tag)
+free_start : (s : State) (tag : Tag) → s.rooted.made ≡ false → (is_empty s.tags && s.rooted.some) ≡ false → length s.tags < most_open false → step s (starts tag) ≡ Ok (opened s tag)
 free_start s tag unmade h few =
     pick_no (not s.rooted.made && (is_empty s.tags && s.rooted.some)) _ _ (and_false (not s.rooted.made) _ h)
     ∙ pick_no (eqb (length s.tags) (most_open s.rooted.made)) _ _ (ap (λ m. eqb (length s.tags) (most_open m)) unmade ∙ other (length s.tags) few)
   where
-    other : (n : ℕ) → n < 513 → eqb n 513 ≡ false
+    other : (n : ℕ) → n < most_open false → eqb n (most_open false) ≡ false
     other n l = grind (arith, nat_tests)
 
 free_end : (s : State) (tag : Tag) (tags : List Tag) → s.tags ≡ tag ∷ tags → step s (ends tag.name) ≡ Ok (closed s)
@@ -152,7 +152,7 @@ goes_written (then_leaf leaf rest) tags s tokens e unmade h r c =
     subst (λ ts. Comes ts (behind (held s leaf) rest)) (append_assoc tokens (holds leaf ∷ []) (tokens_of (marks rest)))
     (goes_written rest tags (held s leaf) (tokens ++ holds leaf ∷ []) e unmade h.2 (subst (λ b. Rooted tags b rest) (sym (leaf_some s leaf unmade)) (leaf_rooted tags s.rooted.some leaf rest r)) next)
 goes_written (then_element tag inside inserted rest) tags s tokens e unmade h r c =
-    let began = one tokens s (opened s tag) (starts tag) c (ap (λ ts. is_shut ts (Some (starts tag))) e ∙ h.0) (free_start s tag unmade (ap (λ ts. is_empty ts && s.rooted.some) e ∙ can_open tags s.rooted.some tag inside inserted rest r) (subst (λ ts. length ts < 513) (sym e) h.4)) in
+    let began = one tokens s (opened s tag) (starts tag) c (ap (λ ts. is_shut ts (Some (starts tag))) e ∙ h.0) (free_start s tag unmade (ap (λ ts. is_empty ts && s.rooted.some) e ∙ can_open tags s.rooted.some tag inside inserted rest r) (subst (λ ts. length ts < most_open false) (sym e) h.4)) in
     let s1 = behind (opened s tag) inside in
     let tags1 : s1.tags ≡ tag ∷ tags = behind_tags (opened s tag) inside ∙ ap (λ ts. tag ∷ ts) e in
     let made1 : s1.rooted.made ≡ false = behind_made (opened s tag) inside ∙ unmade in

@@ -184,7 +184,7 @@ module _ (made : Bool) where
   inside_by tags tag inside true is empty later = subst (λ f. Written (ptags (tag ∷ tags)) (clean [] f)) (sym (empty is)) tt
   inside_by tags tag inside false is empty later = later is
 
-  pub clean_written : (tags : List Tag) (waits : List ℕ) (f : Forest) → NotVoid tags → IsOpen (ptags tags) → Calm tags f → length (ptags tags) + depth f ≤ 513 → Written (ptags tags) (clean waits f)
+  pub clean_written : (tags : List Tag) (waits : List ℕ) (f : Forest) → NotVoid tags → IsOpen (ptags tags) → Calm tags f → length (ptags tags) + depth f ≤ most_open false → Written (ptags tags) (clean waits f)
   clean_written tags waits nothing v o calm deep = text_written tags waits nothing v o tt
   clean_written tags waits (then_leaf (text content) rest) v o calm deep = clean_written tags (waits ++ content) rest v o calm deep
   clean_written tags waits (then_leaf (comment content) rest) v o calm deep =
@@ -194,7 +194,7 @@ module _ (made : Bool) where
       text_written tags waits (then_element (plain_tag tag) (clean [] inside) (is_void tag.name) (clean [] rest)) v o
       (still_start made tags tag calm.0, refl, refl, (λ void. ap (clean []) (calm.1 void)), omega (arith, deep), inside_by tags tag inside (is_void tag.name) refl calm.1 (λ w. clean_written (tag ∷ tags) [] inside w tt calm.2 (omega (arith, deep))), clean_written tags [] rest v o calm.3 (omega (arith, deep)))
 
-pub outer_written : (f : Forest) → Calm [] f → depth f ≤ 513 → Written [] (outer f)
+pub outer_written : (f : Forest) → Calm [] f → depth f ≤ most_open false → Written [] (outer f)
 outer_written nothing calm deep = tt
 outer_written (then_leaf (text content) rest) calm deep = outer_written rest calm deep
 outer_written (then_leaf (comment content) rest) calm deep = (refl, refl, outer_written rest calm deep)

@@ -57,7 +57,7 @@ tree_parents p n (then_element tag inside inserted rest) =
     (parents_append p n i (rows_at p (m + length i) rest) (parents_from p n n m i (omega arith) (omega arith) (tree_parents n m inside)) (wider p n (m + length i) (rows_at p (m + length i) rest) (omega arith) (tree_parents p (m + length i) rest)))
 
 -- the row at a place of a part of the document
-row_at : (doc : Document) (n : ℕ) (xs post : List Row) (k : ℕ) → drop n doc ≡ xs ++ post → k < length xs → row doc (n + k) ≡ get_or xs k no_row
+pub row_at : (doc : Document) (n : ℕ) (xs post : List Row) (k : ℕ) → drop n doc ≡ xs ++ post → k < length xs → row doc (n + k) ≡ get_or xs k no_row
 row_at doc n xs post k h l = sym (get_or-drop n doc k no_row) ∙ ap (λ z. get_or z k no_row) h ∙ get_or-append xs post no_row k l
 
 parent_at : (p a : ℕ) (xs : List Row) (k : ℕ) → Parents p a xs → k < length xs → ((get_or xs k no_row).parent ≡ p) ⊎ (a ≤ (get_or xs k no_row).parent)
@@ -107,10 +107,10 @@ heads n (then_element tag inside inserted rest) =
 one_and : (f : ℕ → Bool) (n k : ℕ) → f n ≡ true → filter f (range_with_len n (suc k)) ≡ n ∷ filter f (range_with_len (n + 1) k)
 one_and f n k h = ap (λ b. cond b (n ∷ filter f (range_with_len (n + 1) k)) (filter f (range_with_len (n + 1) k))) h
 
-row_first : (doc : Document) (n : ℕ) (r : Row) (xs : List Row) → drop n doc ≡ r ∷ xs → row doc n ≡ r
+pub row_first : (doc : Document) (n : ℕ) (r : Row) (xs : List Row) → drop n doc ≡ r ∷ xs → row doc n ≡ r
 row_first doc n r xs h = ap (row doc) (sym (add-zero n)) ∙ sym (get_or-drop n doc 0 no_row) ∙ ap (λ z. get_or z 0 no_row) h
 
-drop_past : (doc : Document) (n m : ℕ) (xs ys : List Row) → m ≡ n + length xs → drop n doc ≡ xs ++ ys → drop m doc ≡ ys
+pub drop_past : (doc : Document) (n m : ℕ) (xs ys : List Row) → m ≡ n + length xs → drop n doc ≡ xs ++ ys → drop m doc ≡ ys
 drop_past doc n m xs ys at h = ap (λ k. drop k doc) (let e : m ≡ length xs + n = omega arith in e) ∙ ap (λ k. drop k doc) (let e : length xs + n ≡ n + length xs = omega arith in e) ∙ sym (drop-drop' n xs) ∙ ap (drop (length xs)) h ∙ drop-append_seam xs ys
   where
     drop-drop' : (n : ℕ) (xs : List Row) → drop (length xs) (drop n doc) ≡ drop (n + length xs) doc

@@ -120,7 +120,7 @@ outer_fragment (then_leaf (comment content) rest) = outer_fragment rest
 outer_fragment (then_leaf doctype rest) = outer_fragment rest
 outer_fragment (then_element tag inside inserted rest) = refl
 
-whole_fragment : (made : Bool) (f : Forest) → is_fragment (tokens_of (marks f)) ≡ made → is_fragment (tokens_of (marks (whole_tree made f))) ≡ false
+pub whole_fragment : (made : Bool) (f : Forest) → is_fragment (tokens_of (marks f)) ≡ made → is_fragment (tokens_of (marks (whole_tree made f))) ≡ false
 whole_fragment true f h = refl
 whole_fragment false f h = outer_fragment f ∙ h
 

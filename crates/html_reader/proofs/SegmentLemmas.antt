@@ -40,7 +40,7 @@ flush_none : (p : ℕ) (was : List Row) → flushed p (sofar was []) ≡ was
 flush_none p was = ap (λ t. was ++ t) (no_text p) ∙ append-nil was
 
 -- the rows behind an element
-abbrev element_then : ℕ → Tag → Forest → Forest → List Row → ℕ → List Row
+abbrev pub element_then : ℕ → Tag → Forest → Forest → List Row → ℕ → List Row
 element_then p tag inside r x k = flushed p (grown p (sofar (flushed k (grown k (sofar (x ++ tag_rows p k tag) []) inside)) []) r)
 
 -- they are the rows that the tree makes

@@ -23,6 +23,7 @@ fn no_memory() -> PageFault
     }
 }
 
+/// Whether it is the name of the root element, in any case of its letters.
 fn is_html(name: &str) -> bool
     ensures { result ≡ str_eq_ignore_ascii_case name.now (codes "html") }
 {

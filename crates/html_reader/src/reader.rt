@@ -25,10 +25,12 @@ use doc_model::{Grow, Piece};
 use std::alloc::Global;
 use text_base::{NoMemory, PageFault, PageReason};
 
-/// What is known of the root of a page: whether it is made, and whether there is something for it.
+/// What is known of the root element of a page.
 #[derive(Clone, Copy, Debug, PartialEq, Eq)]
 pub struct Root {
+    /// It is made: no start tag `html` is the first one of the page.
     pub made: bool,
+    /// There is something for it: a start tag, or for a made root a text that is not white space.
     pub some: bool,
 }
 
@@ -42,11 +44,18 @@ pub struct Reader<'p, G> {
     waits: Owned<'p>,
 }
 
-/// How many start tags may be open.
+/// How many elements may be open, a made root counted.
+const MOST_ELEMENTS: usize = 513;
+
+/// How many start tags may be open: a made root is one of the elements.
 fn most_open(made: bool) -> usize
     ensures { result ≡ most_open made }
 {
-    if made { 512 } else { 513 }
+    if made {
+        MOST_ELEMENTS - 1
+    } else {
+        MOST_ELEMENTS
+    }
 }
 
 /// Begins a document, with its root where it is made.
@@ -170,7 +179,6 @@ impl<'p, G: Grow<'p> + Drop> Reader<'p, G> {
     }
 
     /// Begins an element.
-
     fn start(&mut self, tag: StartTag<'p>) -> Result<(), NoMemory>
         requires sound { IsSound (the_state self.old.tags.items self.old.rooted (G.growing self.old.grow) (owned_bytes self.old.waits)) }
         requires kept { IsKept (starts (tag_of tag)) }
@@ -187,7 +195,6 @@ impl<'p, G: Grow<'p> + Drop> Reader<'p, G> {
     }
 
     /// Ends the innermost element.
-
     fn end(&mut self) -> Result<(), NoMemory>
         requires sound { IsSound (the_state self.old.tags.items self.old.rooted (G.growing self.old.grow) (owned_bytes self.old.waits)) }
         requires some { 0 < vec_len self.old.tags }

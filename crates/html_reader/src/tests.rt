@@ -58,9 +58,24 @@ const SHOP_ROWS: &str =
     20<path 22@d=M0 0 16\"\n 16<ul 25@class=goods wide 25\"\n 25<li 28@class=item 28<a 30@href=/p/1?x=1&y=2 30\"One 28\"  \
     28<b 34\"10\u{a0}EUR 28\"\n 25<li 37@class=item 37<a 39@href=/p/2 39\"Two 37\"  37<b 43\"7\u{a0}EUR 37\"\n 16\"\n 1\"\n ";
 
+/// The rows of a page as above, or its fault with the place.
+fn told(alloc: Global, page: &str) -> Result<String, NoMemory> {
+    match read(alloc, page) {
+        Ok(tree) => rows(alloc, &tree),
+        Err(fault) => Ok(format!(in alloc; "{:?} at {}", fault.reason, fault.at)?),
+    }
+}
+
 #[test]
-fn builds_trees(rt: HostRuntime) -> Result<(), Fail> {
-    let pages: [(&str, &str); 22] = [
+fn reads_a_shop(rt: HostRuntime) -> Result<(), Fail> {
+    let got = told(rt.alloc(), SHOP).expect(&rt, "memory");
+    assert_eq!(rt; got.as_str(), SHOP_ROWS);
+    Ok(())
+}
+
+#[test]
+fn inserts_ends(rt: HostRuntime) -> Result<(), Fail> {
+    let pages: [(&str, &str); 5] = [
         ("<ul><li>a<li>b</ul>", "0<html 1<ul 2<li 3\"a 2<li 5\"b "),
         (
             "<table><tr><td>1<td>2<tr><td>3</table>",
@@ -78,6 +93,17 @@ fn builds_trees(rt: HostRuntime) -> Result<(), Fail> {
             "<ruby>a<rt>b<rp>c</ruby>",
             "0<html 1<ruby 2\"a 2<rt 4\"b 2<rp 6\"c ",
         ),
+    ];
+    for (page, want) in pages {
+        let got = told(rt.alloc(), page).expect(&rt, "memory");
+        assert_eq!(rt; got.as_str(), want, "page {page}");
+    }
+    Ok(())
+}
+
+#[test]
+fn keeps_texts_and_attributes(rt: HostRuntime) -> Result<(), Fail> {
+    let pages: [(&str, &str); 6] = [
         ("<svg><pre/>\nx</svg>", "0<html 1<svg 2<pre 2\"x "),
         ("<PRE>\n\nx</pre>", "0<html 1<pre 2\"\nx "),
         ("<p>a<!doctype x>b</p>", "0<html 1<p 2\"ab "),
@@ -93,94 +119,159 @@ fn builds_trees(rt: HostRuntime) -> Result<(), Fail> {
             "<p a b c d e f g h i j k l m n o p q r s t B=2 T=5 u=6>x</p>",
             "0<html 1<p 2@a= 2@b= 2@c= 2@d= 2@e= 2@f= 2@g= 2@h= 2@i= 2@j= 2@k= 2@l= 2@m= 2@n= 2@o= 2@p= 2@q= 2@r= 2@s= 2@t= 2@u=6 2\"x ",
         ),
-        (
-            "<html><head><title></title><p>a",
-            "0<html 1<head 2<title 1<p 4\"a ",
-        ),
+    ];
+    for (page, want) in pages {
+        let got = told(rt.alloc(), page).expect(&rt, "memory");
+        assert_eq!(rt; got.as_str(), want, "page {page}");
+    }
+    Ok(())
+}
+
+#[test]
+fn makes_a_root(rt: HostRuntime) -> Result<(), Fail> {
+    let pages: [(&str, &str); 8] = [
         ("a<p>b</p><p>c", "0<html 1\"a 1<p 3\"b 1<p 5\"c "),
         ("<p>a</p><p>b</p>", "0<html 1<p 2\"a 1<p 4\"b "),
         ("x<p>", "0<html 1\"x 1<p "),
+        (
+            "<div><p>a</p><ul><li>b</li></ul></div>",
+            "0<html 1<div 2<p 3\"a 2<ul 5<li 6\"b ",
+        ),
         (
             "<head><title></title><p>a",
             "0<html 1<head 2<title 1<p 4\"a ",
         ),
         ("<p>a</p>b<!doctype x>c", "0<html 1<p 2\"a 1\"bc "),
         ("<!--c-->\n<b></b>", "0<html 1!c 1\"\n 1<b "),
-        (
-            " <!doctype html> <HTML><p>x</HTML> <!--c--> ",
-            "0<html 1<p 2\"x 0!c ",
-        ),
-        (".", "0<html 1\". "),
         ("&nbsp;", "0<html 1\"\u{a0} "),
-        (SHOP, SHOP_ROWS),
     ];
     for (page, want) in pages {
-        match read(rt.alloc(), page) {
-            Ok(tree) => {
-                let got = rows(rt.alloc(), &tree).expect(&rt, "memory");
-                assert_eq!(rt; got.as_str(), want);
-            }
-            Err(fault) => assert!(rt; false, "page {page} is refused at {}", fault.at),
-        }
+        let got = told(rt.alloc(), page).expect(&rt, "memory");
+        assert_eq!(rt; got.as_str(), want, "page {page}");
     }
     Ok(())
 }
 
 #[test]
-fn refuses_pages(rt: HostRuntime) -> Result<(), Fail> {
-    let pages: [(&str, PageReason, usize); 14] = [
-        ("", PageReason::NoRoot, 0),
-        ("<p><a hre", PageReason::BadTag, 3),
-        ("<p =\"x\">", PageReason::BadAttribute, 0),
-        ("<p><!-- x", PageReason::BadComment, 3),
-        ("<p><![CDATA[x]]></p>", PageReason::BadMarkup, 3),
-        ("<div>", PageReason::Unclosed, 5),
-        (" <!--x--> ", PageReason::NoRoot, 10),
-        ("x<html>", PageReason::TextOutside, 0),
-        ("<html></html>x", PageReason::TextOutside, 13),
-        ("<html></html><p>", PageReason::SecondRoot, 13),
-        ("<p>x</p></html>", PageReason::StrayEnd, 8),
-        ("<p>a<b>c</p>", PageReason::StrayEnd, 8),
-        ("<p>a</p></p>", PageReason::StrayEnd, 8),
-        ("<p>a</p></p><a hre", PageReason::StrayEnd, 8),
+fn takes_the_root_of_a_page(rt: HostRuntime) -> Result<(), Fail> {
+    let pages: [(&str, &str); 6] = [
+        (
+            "<html><head><title></title><p>a",
+            "0<html 1<head 2<title 1<p 4\"a ",
+        ),
+        (
+            " <!doctype html> <HTML><p>x</HTML> <!--c--> ",
+            "0<html 1<p 2\"x 0!c ",
+        ),
+        ("<html></html>x", "TextOutside at 13"),
+        ("<html></html><p>", "SecondRoot at 13"),
+        ("x<html>", "TextOutside at 0"),
+        ("x<html><!y", "TextOutside at 0"),
     ];
-    for (page, reason, at) in pages {
-        match read(rt.alloc(), page) {
-            Ok(_) => assert!(rt; false, "page {page} is read"),
-            Err(fault) => assert_eq!(rt; fault, PageFault { reason, at }, "page {page}"),
-        }
+    for (page, want) in pages {
+        let got = told(rt.alloc(), page).expect(&rt, "memory");
+        assert_eq!(rt; got.as_str(), want, "page {page}");
     }
     Ok(())
 }
 
-fn nested(alloc: Global, depth: usize) -> Result<String, NoMemory> {
+#[test]
+fn refuses_markup(rt: HostRuntime) -> Result<(), Fail> {
+    let pages: [(&str, &str); 7] = [
+        ("<p><a hre", "BadTag at 3"),
+        ("<p =\"x\">", "BadAttribute at 0"),
+        ("<p><!-- x", "BadComment at 3"),
+        ("<p><![CDATA[x]]></p>", "BadMarkup at 3"),
+        ("x<!y", "BadMarkup at 1"),
+        ("x<!y<html>", "BadMarkup at 1"),
+        ("x<html a=\"", "BadTag at 1"),
+    ];
+    for (page, want) in pages {
+        let got = told(rt.alloc(), page).expect(&rt, "memory");
+        assert_eq!(rt; got.as_str(), want, "page {page}");
+    }
+    Ok(())
+}
+
+#[test]
+fn refuses_trees(rt: HostRuntime) -> Result<(), Fail> {
+    let pages: [(&str, &str); 7] = [
+        ("", "NoRoot at 0"),
+        (" <!--c-->", "NoRoot at 9"),
+        ("<div>", "Unclosed at 5"),
+        ("<p>x</p></html>", "StrayEnd at 8"),
+        ("<p>a<b>c</p>", "StrayEnd at 8"),
+        ("<p>a</p></p>", "StrayEnd at 8"),
+        ("<p>a</p></p><a hre", "StrayEnd at 8"),
+    ];
+    for (page, want) in pages {
+        let got = told(rt.alloc(), page).expect(&rt, "memory");
+        assert_eq!(rt; got.as_str(), want, "page {page}");
+    }
+    Ok(())
+}
+
+/// The fault of the page below, cut after so many bytes.
+fn cut_fault(bytes: usize) -> Option<PageFault> {
+    let (reason, at) = match bytes {
+        0 => (PageReason::NoRoot, 0),
+        2 => (PageReason::BadTag, 0),
+        5..=15 => (PageReason::BadTag, 3),
+        16..=18 => (PageReason::Unclosed, bytes),
+        19..=20 => (PageReason::BadTag, 17),
+        23..=24 => (PageReason::BadMarkup, 21),
+        25..=28 => (PageReason::BadComment, 21),
+        31..=32 => (PageReason::BadTag, 29),
+        _ => return None,
+    };
+    Some(PageFault { reason, at })
+}
+
+#[test]
+fn refuses_cut_pages(rt: HostRuntime) -> Result<(), Fail> {
+    let mut page = String::new(rt.alloc());
+    for c in "<p><b class=\"x\">y</b><!--z--></p>".chars() {
+        let bytes = page.len();
+        assert_eq!(rt;
+            read(rt.alloc(), page.as_str()).err(),
+            cut_fault(bytes),
+            "{bytes} bytes"
+        );
+        page.push(c)?;
+    }
+    assert_eq!(rt; page.len(), 33);
+    assert!(rt; read(rt.alloc(), page.as_str()).is_ok());
+    Ok(())
+}
+
+/// `<b>` so many times in itself, with a start tag before and an end tag after.
+fn nested(alloc: Global, before: &str, depth: usize, after: &str) -> Result<String, NoMemory> {
     let mut page = String::new(alloc);
+    page.push_str(before)?;
     for _ in 0..depth {
         page.push_str("<b>")?;
     }
     for _ in 0..depth {
         page.push_str("</b>")?;
     }
+    page.push_str(after)?;
     Ok(page)
 }
 
 #[test]
 fn nests(rt: HostRuntime) -> Result<(), Fail> {
-    let page = nested(rt.alloc(), 512).expect(&rt, "memory");
-    match read(rt.alloc(), page.as_str()) {
-        Ok(tree) => assert_eq!(rt; tree.len(), 514),
-        Err(fault) => assert!(rt; false, "refused at {}", fault.at),
-    }
-    let page = nested(rt.alloc(), 513).expect(&rt, "memory");
-    match read(rt.alloc(), page.as_str()) {
-        Ok(_) => assert!(rt; false),
-        Err(fault) => assert_eq!(rt;
-            fault,
-            PageFault {
-                reason: PageReason::Deep,
-                at: 1536,
-            }
-        ),
+    for (before, after, deep) in [("", "", 1536), ("<html>", "</html>", 1542)] {
+        let page = nested(rt.alloc(), before, 512, after).expect(&rt, "memory");
+        match read(rt.alloc(), page.as_str()) {
+            Ok(tree) => assert_eq!(rt; tree.len(), 514),
+            Err(fault) => assert!(rt; false, "refused at {}", fault.at),
+        }
+        let page = nested(rt.alloc(), before, 513, after).expect(&rt, "memory");
+        let fault = PageFault {
+            reason: PageReason::Deep,
+            at: deep,
+        };
+        assert_eq!(rt; read(rt.alloc(), page.as_str()).err(), Some(fault));
     }
     Ok(())
 }

@@ -1,4 +1,4 @@
-use Rattle.std.proofs.Common.{◌≡◌, ◌+◌, ◌∷◌, map, drop, get_or, sym, ◌∙◌, ap, subst, true}
+use Rattle.std.proofs.Common.{◌≡◌, ◌+◌, map, drop, get_or, sym, ◌∙◌, ap, subst, true}
 use Rattle.std.proofs.lemmas.List.{drop_more}
 use Rattle.html_reader.specs.Tables.{is_listed, are_apart}
 use Rattle.html_reader.specs.Views.{ending_of}
