@@ -1,5 +1,5 @@
 -- The canonical markup of a document is its tree as it is written out.
-use Rattle.std.proofs.Common.{◌≡◌, ℕ, ◌+◌, ◌<◌, Bool, true, false, ◌&&◌, cond, List, [], ◌∷◌, ◌++◌, map, length, drop, get_or, sym, refl, ◌∙◌, ap, arith, append_assoc, append-nil, length-append, lt-ltb, eq-eqb, get_or-drop, add-zero, encode_utf8_all}
+use Rattle.std.proofs.Common.{◌≡◌, ℕ, ◌+◌, ◌<◌, Bool, true, false, ◌&&◌, cond, List, [], ◌∷◌, ◌++◌, map, length, drop, sym, refl, ◌∙◌, ap, arith, append_assoc, append-nil, length-append, lt-ltb, eq-eqb, encode_utf8_all}
 use Rattle.std.specs.Prelude.{flat_map, filter, codes}
 use Rattle.std.specs.List.{range_with_len}
 use Rattle.std.specs.Str.{chars, IsUtf8, str_to_ascii_lowercase}
@@ -17,14 +17,14 @@ use Rattle.html_reader.specs.Places.{outside, place_grown, all_rows}
 use Rattle.html_reader.proofs.InkLemmas.{ink, ink_text, ink_pair, ink_tag, end_ink, is_literal, newline as added, ink_content}
 use Rattle.html_reader.proofs.CleanLemmas.{whole_tree}
 use Rattle.html_reader.proofs.SegmentLemmas.{rows_at}
-use Rattle.html_reader.proofs.ContentOfRows.{heads, tree_parents}
+use Rattle.html_reader.proofs.ContentOfRows.{heads, tree_parents, row_first, drop_past}
 use Rattle.markup_out.specs.Names as out
 use Rattle.markup_out.specs.Escapes.{escaped_text, escaped_value}
 use Rattle.markup_out.specs.Markup.{children, attributes, attribute_markup, begins_newline, newline_first, markup_of, styled, canonical}
 use Rattle.markup_out.proofs.Levels.{markup_of_rows}
 use Rattle.markup_back.proofs.InkNames.{void_is, takes_is, raw_is, literal_takes, none_raw, none_content, enc, enc_is, enc_both, enc_lf, enc_ascii, enc_none, enc_text, enc_value, lead_text}
 use Rattle.markup_back.proofs.RootRows.{page_rows}
-use Rattle.markup_back.proofs.RowFacts.{Each, each_append, Apart, NotIs, apart_more, apart_not, parents_apart, drop_past, tree_document, children_here, attributes_here}
+use Rattle.markup_back.proofs.RowFacts.{Each, each_append, Apart, NotIs, apart_more, apart_not, parents_apart, tree_document, children_here, attributes_here}
 use Rattle.text_base.proofs.Text.{encode-chars}
 
 -- ---- what is known of a tree whose document is written
@@ -73,9 +73,6 @@ enc_chars : (s : List ℕ) → IsUtf8 s → enc (chars s) ≡ s
 enc_chars s u = enc_is (chars s) ∙ encode-chars s u
 
 -- ---- one row
-
-row_first : (doc : Document) (n : ℕ) (r : Row) (xs : List Row) → drop n doc ≡ r ∷ xs → row doc n ≡ r
-row_first doc n r xs h = ap (row doc) (sym (add-zero n)) ∙ sym (get_or-drop n doc 0 no_row) ∙ ap (λ z. get_or z 0 no_row) h
 
 is_own : (doc : Document) (x y : ℕ) (r : Row) → row doc y ≡ r → is_attribute_kind r.kind ≡ true → 0 < y → r.parent ≡ x → on_axis doc axis.Attribute x y ≡ true
 is_own doc x y r at a l e = λ j. (ap (λ (r : Row). is_attribute_kind r.kind) at ∙ a) j && (lt-ltb 0 y l j && eq-eqb _ _ (ap (λ (r : Row). r.parent) at ∙ e) j)

@@ -26,9 +26,6 @@ unfolding newline_names out_newline_names
 takes_is name u low = sym (newline_same name u) ∙ ap out.takes_newline (sym low)
 
 -- a name in lower case is one of a table in any case where it is one of the table
-same_case : (n name : List ℕ) → str_to_ascii_lowercase n ≡ n → str_to_ascii_lowercase name ≡ name → str_eq_ignore_ascii_case n name ≡ bytes_eq n name
-same_case n name h k = λ j. bytes_eq (h j) (k j)
-
 lit_is : (name : List ℕ) → str_to_ascii_lowercase name ≡ name → list_any (λ n. str_eq_ignore_ascii_case n name) literal_names ≡ out.is_raw name
 unfolding literal_names out_raw_names
 lit_is name low = λ j. list_any (λ n. bytes_eq n (low j)) literal_names

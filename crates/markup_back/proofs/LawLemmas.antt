@@ -7,12 +7,12 @@ use Rattle.html_reader.specs.Reading.{Builds, is_fragment}
 use Rattle.html_reader.specs.Pages.{BuildsPage}
 use Rattle.html_reader.proofs.CleanLemmas.{whole_tree, tokens_back}
 use Rattle.html_reader.proofs.InkLemmas.{ink, IsInk}
-use Rattle.html_reader.proofs.InkLawLemmas.{IsTextual, page_textual, ink_spells}
+use Rattle.html_reader.proofs.InkLawLemmas.{IsTextual, page_textual, ink_spells, whole_fragment}
 use Rattle.html_reader.proofs.PageInkLemmas.{page_ink}
 use Rattle.markup_out.specs.Markup.{canonical}
 use Rattle.markup_back.specs.Laws.{CanonicalBuilds}
 use Rattle.markup_back.proofs.CanonicalLemmas.{canonical_ink}
-use Rattle.markup_back.proofs.SpeltLemmas.{spelt_of, whole_fragment}
+use Rattle.markup_back.proofs.SpeltLemmas.{spelt_of}
 
 pub canonical_builds : CanonicalBuilds
 canonical_builds page doc utf8 b =

@@ -1,13 +1,13 @@
 -- The rows of a page are those of its tree as it is written out.
 use Rattle.std.proofs.Common.{◌≡◌, ℕ, ◌+◌, ◌<◌, List, [], ◌∷◌, ◌++◌, length, Bool, true, false, sym, refl, ◌∙◌, ap, arith, append_assoc, append-nil, length-append}
 use Rattle.doc_model.specs.Document.{Row, no_row}
-use Rattle.html_reader.specs.Tokens.{Tag, text, comment, doctype}
+use Rattle.html_reader.specs.Tokens.{text, comment, doctype}
 use Rattle.html_reader.specs.Forest.{Forest, nothing, then_leaf, then_element}
 use Rattle.html_reader.specs.Rows.{sofar, flushed, grown, tag_rows, row_of_comment}
 use Rattle.html_reader.specs.Places.{outside, place_grown, all_rows}
 use Rattle.html_reader.proofs.InkLemmas.{NotText}
 use Rattle.html_reader.proofs.CleanLemmas.{text_leaf, clean, outer, plain_tag, whole_tree, whole_rows}
-use Rattle.html_reader.proofs.SegmentLemmas.{rows_at, IsTidy, tidy_rows}
+use Rattle.html_reader.proofs.SegmentLemmas.{rows_at, IsTidy, tidy_rows, element_then}
 
 -- a text that waits comes before what is no text
 leaf_tidy : (waits : List ℕ) (g : Forest) → NotText g → IsTidy g → IsTidy (text_leaf waits g)
@@ -39,10 +39,6 @@ outer_roots (then_element tag inside inserted rest) = (clean_tidy [] inside, out
 whole_roots : (made : Bool) (f : Forest) → IsRoots (whole_tree made f)
 whole_roots true f = (clean_tidy [] f, tt)
 whole_roots false f = outer_roots f
-
--- the rows behind an element
-abbrev element_then : ℕ → Tag → Forest → Forest → List Row → ℕ → List Row
-element_then p tag inside r x k = flushed p (grown p (sofar (flushed k (grown k (sofar (x ++ tag_rows p k tag) []) inside)) []) r)
 
 root_rows : (n : ℕ) (was : List Row) (g : Forest) → 0 < n → n ≡ length was → IsRoots g → flushed 0 (grown 0 (sofar was []) g) ≡ was ++ rows_at 0 n g
 root_rows n was nothing some e h = refl

@@ -1,11 +1,9 @@
 -- What is known of the rows of a tree: their parents, and where its attributes and children stand.
-use Rattle.std.proofs.Common.{◌≡◌, ℕ, zero, suc, ◌+◌, ◌-◌, ◌<◌, ◌≤◌, ◌⊎◌, inl, inr, List, [], ◌∷◌, ◌++◌, map, length, drop, get_or, true, ◌&&◌, sym, refl, ◌∙◌, ap, subst, arith, length-append, eqb, ltb, get_or-drop, drop-drop}
+use Rattle.std.proofs.Common.{◌≡◌, ℕ, zero, suc, ◌+◌, ◌-◌, ◌<◌, ◌≤◌, ◌⊎◌, inl, inr, List, [], ◌∷◌, ◌++◌, map, length, drop, get_or, true, ◌&&◌, sym, refl, ◌∙◌, ap, subst, arith, length-append, eqb, ltb}
 use Rattle.std.specs.Prelude.{filter}
 use Rattle.std.specs.List.{range_with_len}
 use Rattle.std.proofs.lemmas.Bool.{cases_lt, and_parts, ltb-true, eqb-true, both_ways, false_from_ne_true}
-use Rattle.std.proofs.lemmas.List.{get_or_past}
-use Rattle.std.proofs.Math.ListN.{get_or-append}
-use Rattle.std.proofs.Math.Seq.{drop-append_seam}
+use Rattle.std.proofs.lemmas.List.{append-nil, get_or_past}
 use Rattle.doc_model.specs.Document.{Row, Document, no_row, row, is_attribute, is_attribute_kind}
 use Rattle.doc_model.specs.Axes.{on_axis}
 use Rattle.doc_model.specs.declared.Axis.TheVariants as axis
@@ -14,7 +12,7 @@ use Rattle.html_reader.specs.Tokens.{Attr, text, comment, doctype}
 use Rattle.html_reader.specs.Forest.{Forest, nothing, then_leaf, then_element}
 use Rattle.html_reader.specs.Rows.{tag_rows, row_of_attribute}
 use Rattle.html_reader.proofs.SegmentLemmas.{rows_at, found_in}
-use Rattle.html_reader.proofs.ContentOfRows.{Parents, tree_parents, heads, children_are}
+use Rattle.html_reader.proofs.ContentOfRows.{Parents, tree_parents, heads, children_are, row_at, drop_past}
 use Rattle.markup_out.specs.Markup.{children, attributes}
 use Rattle.markup_out.proofs.Levels.{child_behind}
 use Rattle.markup_out.proofs.ContentRows.{child_parent, child_no_attribute}
@@ -37,18 +35,10 @@ each_get P [] k h l = absurd (omega arith)
 each_get P (x ∷ xs) zero h l = h.0
 each_get P (x ∷ xs) (suc k) h l = each_get P xs k h.1 (omega arith)
 
--- the row at a place of a part of the document
-row_in : (doc : Document) (n : ℕ) (xs post : List Row) (k : ℕ) → drop n doc ≡ xs ++ post → k < length xs → row doc (n + k) ≡ get_or xs k no_row
-row_in doc n xs post k h l = sym (get_or-drop n doc k no_row) ∙ ap (λ z. get_or z k no_row) h ∙ get_or-append xs post no_row k l
-
 pub each_at : (P : Row → Type 0) (doc : Document) (m : ℕ) (xs post : List Row) → drop m doc ≡ xs ++ post → Each P xs → (y : ℕ) → m ≤ y → y < m + length xs → P (row doc y)
 each_at P doc m xs post h e y l k =
-    let at : row doc y ≡ get_or xs (y - m) no_row = ap (row doc) (let s : y ≡ m + (y - m) = omega (arith, l) in s) ∙ row_in doc m xs post (y - m) h (omega (arith, l, k)) in
+    let at : row doc y ≡ get_or xs (y - m) no_row = ap (row doc) (let s : y ≡ m + (y - m) = omega (arith, l) in s) ∙ row_at doc m xs post (y - m) h (omega (arith, l, k)) in
     subst P (sym at) (each_get P xs (y - m) e (omega (arith, l, k)))
-
-pub drop_past : (doc : Document) (n m : ℕ) (xs ys : List Row) → m ≡ n + length xs → drop n doc ≡ xs ++ ys → drop m doc ≡ ys
-drop_past doc n m xs ys at h =
-    ap (λ k. drop k doc) (let e : m ≡ length xs + n = omega (arith, at) in e) ∙ sym (drop-drop (length xs) n doc ∙ ap (λ k. drop k doc) (let e : _ ≡ length xs + n = omega arith in e)) ∙ ap (drop (length xs)) h ∙ drop-append_seam xs ys
 
 -- ---- parents
 
@@ -165,17 +155,13 @@ module _ (doc : Document) (small : Small doc) where
       let i = rows_at n m inside in
       let h1 : drop m doc ≡ i ++ post = drop_past doc (n + 1) m (map (row_of_attribute n) attrs) (i ++ post) e h in
       let h2 : drop (m + length i) doc ≡ post = drop_past doc m (m + length i) i post refl h1 in
-      let h3 : drop (m + length i) doc ≡ post ++ [] = h2 ∙ sym (append_nil post) in
+      let h3 : drop (m + length i) doc ≡ post ++ [] = h2 ∙ sym (append-nil post) in
       found_in (on_axis doc axis.Child n) m (length i) (length doc)
       (λ y l. false_from_ne_true _ (λ c. before y l c (cases_lt n y)))
       (λ y l k. false_from_ne_true _ (λ c. each_at (NotIs n) doc (m + length i) post [] h3 other y l (omega (arith, k, long)) (child_parent doc n y c)))
       (omega (arith, long))
       ∙ children_are doc n m inside post (omega (arith, e)) h1
     where
-      append_nil : (xs : List Row) → xs ++ [] ≡ xs
-      append_nil [] = refl
-      append_nil (x ∷ xs) = ap (λ z. x ∷ z) (append_nil xs)
-
       before : (y : ℕ) → y < m → on_axis doc axis.Child n y ≡ true → (n < y) ⊎ (y ≤ n) → ⊥
       before y l c (inl k) = both_ways _ (child_no_attribute doc n y c) (each_at IsAttr doc (n + 1) (map (row_of_attribute n) attrs) (rows_at n m inside ++ post) h (each_attr n attrs) y (omega (arith, k)) (omega (arith, l, e)))
       before y l c (inr k) = let b : n < y = child_behind doc n y small c in omega (arith, b, k)
@@ -194,17 +180,13 @@ module _ (doc : Document) (small : Small doc) where
   attributes_here n m attrs inside post e h other long =
       let i = rows_at n m inside in
       let h1 : drop m doc ≡ i ++ post = drop_past doc (n + 1) m (map (row_of_attribute n) attrs) (i ++ post) e h in
-      let h2 : drop m doc ≡ (i ++ post) ++ [] = h1 ∙ sym (append_nil (i ++ post)) in
+      let h2 : drop m doc ≡ (i ++ post) ++ [] = h1 ∙ sym (append-nil (i ++ post)) in
       let none : Each (NotOwn n) (i ++ post) = each_append (NotOwn n) i post (tree_own n m inside (omega (arith, e))) (each_more (NotIs n) (NotOwn n) (λ r h k s. h s) post other) in
       found_in (on_axis doc axis.Attribute n) (n + 1) (length (map (row_of_attribute n) attrs)) (length doc)
       (λ y l. false_from_ne_true _ (λ c. let b : n < y = own_behind n y c in omega (arith, b, l)))
       (λ y l k. false_from_ne_true _ (λ c. each_at (NotOwn n) doc m (i ++ post) [] h2 none y (omega (arith, l, e)) (omega (arith, k, long, length-append i post)) (own_kind n y c) (own_parent n y c)))
       (omega (arith, long, e))
     where
-      append_nil : (xs : List Row) → xs ++ [] ≡ xs
-      append_nil [] = refl
-      append_nil (x ∷ xs) = ap (λ z. x ∷ z) (append_nil xs)
-
       own_kind : (n y : ℕ) → on_axis doc axis.Attribute n y ≡ true → is_attribute doc y ≡ true
       own_kind n y c = (and_parts (is_attribute doc y) _ c).0
 

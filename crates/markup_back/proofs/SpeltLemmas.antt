@@ -1,13 +1,10 @@
 -- What can be written of a page is known well enough for its document.
-use Rattle.std.proofs.Common.{◌≡◌, ℕ, Bool, true, false, ◌&&◌, List, [], ◌∷◌, sym, refl, ◌∙◌, ap, subst}
+use Rattle.std.proofs.Common.{◌≡◌, ℕ, Bool, true, false, ◌&&◌, List, [], ◌∷◌, sym, refl, ap, subst}
 use Rattle.std.specs.Prelude.{not}
 use Rattle.html_lexer.specs.Names.{is_raw, is_escapable}
 use Rattle.html_reader.specs.Tokens.{Attr, text, comment, doctype}
-use Rattle.html_reader.specs.Forest.{Forest, nothing, then_leaf, then_element, marks}
+use Rattle.html_reader.specs.Forest.{Forest, nothing, then_leaf, then_element}
 use Rattle.html_reader.specs.Tables.{is_void}
-use Rattle.html_reader.specs.Words.{tokens_of}
-use Rattle.html_reader.specs.Reading.{is_fragment}
-use Rattle.html_reader.proofs.CleanLemmas.{outer, whole_tree}
 use Rattle.html_reader.proofs.InkLemmas.{is_literal, IsInk, Inside, IsRawInside}
 use Rattle.html_reader.proofs.InkLawLemmas.{AttrsUtf8, IsTextual}
 use Rattle.markup_back.proofs.CanonicalLemmas.{IsLone, AreNames, IsSpelt}
@@ -53,15 +50,3 @@ spelt_of (then_leaf (comment s) rest) h u = (u.0, spelt_of rest h.1 u.1)
 spelt_of (then_leaf doctype rest) h u = absurd h
 spelt_of (then_element tag inside inserted rest) h u =
     (u.0, h.0.1, attr_names tag.attrs u.1, inside_lone (is_void tag.name) (is_raw tag.name) tag.name inside (IsInk inside) refl h.2, inside_spelt (is_void tag.name) (is_raw tag.name) tag.name inside h.2 (λ k. spelt_of inside k u.2), spelt_of rest h.3 u.3)
-
-outer_fragment : (f : Forest) → is_fragment (tokens_of (marks (outer f))) ≡ is_fragment (tokens_of (marks f))
-outer_fragment nothing = refl
-outer_fragment (then_leaf (text s) rest) = outer_fragment rest
-outer_fragment (then_leaf (comment s) rest) = outer_fragment rest
-outer_fragment (then_leaf doctype rest) = outer_fragment rest
-outer_fragment (then_element tag inside inserted rest) = refl
-
--- what is written is no fragment
-pub whole_fragment : (made : Bool) (f : Forest) → is_fragment (tokens_of (marks f)) ≡ made → is_fragment (tokens_of (marks (whole_tree made f))) ≡ false
-whole_fragment true f h = refl
-whole_fragment false f h = outer_fragment f ∙ h

@@ -1,4 +1,5 @@
-//! Markup that HTML reads back.
+//! Markup that HTML reads back: what the document of a page is written as builds the same document. That is a law over all
+//! pages, and both functions stand on it.
 #![tactic(auto)]
 
 mod laws;

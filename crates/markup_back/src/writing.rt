@@ -21,7 +21,8 @@ pub fn canonical<T: Tree>(alloc: Global, tree: &T) -> Result<String, NoMemory>
     }
 }
 
-/// The tree that HTML makes of the canonical markup of a tree whose document a UTF-8 text builds.
+/// The tree that HTML makes of the canonical markup of a tree whose document a UTF-8 text builds. It has the same
+/// document, and the markup has no fault.
 pub fn read_back<T: Tree>(alloc: Global, tree: &T) -> Result<VecTree, NoMemory>
     requires builds { (page : List ℕ) × (IsUtf8 page × BuildsPage page (T.document tree.now)) }
     requires short { length (encode_utf8_all (spec.canonical (T.document tree.now))) ≤ 4194304 }
