@@ -33,6 +33,6 @@ has_id doc word y = is_element doc y && list_any (λ z. gives_id doc word z && (
 abbrev pub GrowsByFront : List ℕ → List ℕ → List ℕ → Type 0
 GrowsByFront old new answer = (front : List ℕ) × (new ≡ old ++ front) × IsFront front answer
 
--- It holds of the rows before b that pass a test, whatever the test by which the list has those before n.
+-- It holds of the rows before b for which a test holds, whatever the test by which the list has those before n.
 abbrev pub Before : List ℕ → ℕ → (List ℕ → Type 0) → Type 0
 Before list b Holds = (p : ℕ → Bool) (n : ℕ) → b ≤ n → list ≡ filter p (range_with_len 0 n) → Holds (filter p (range_with_len 0 b))
