@@ -1,0 +1,5 @@
+pub mod Sizes
+pub mod Specificity
+pub mod Texts
+pub mod WellMade
+pub mod Words
