@@ -1,11 +1,7 @@
--- A list of truths that is made from another.
-use Rattle.std.proofs.Common.{◌≡◌, refl, ap, Bool, ◌&&◌, ◌||◌, List, [], ◌∷◌, map}
-use Rattle.std.specs.List.{list_any, list_all}
+-- A test of what a list is made from.
+use Rattle.std.proofs.Common.{◌≡◌, refl, ap, Bool, ◌||◌, List, [], ◌∷◌, map}
+use Rattle.std.specs.List.{list_any}
 
-pub all_mapped : {A : Type 0} (f : A → Bool) (xs : List A) → list_all (λ b. b) (map f xs) ≡ list_all f xs
-all_mapped f [] = refl
-all_mapped f (x ∷ xs) = ap (λ b. f x && b) (all_mapped f xs)
-
-pub any_mapped : {A : Type 0} (f : A → Bool) (xs : List A) → list_any (λ b. b) (map f xs) ≡ list_any f xs
-any_mapped f [] = refl
-any_mapped f (x ∷ xs) = ap (λ b. f x || b) (any_mapped f xs)
+pub any_map : {A B : Type 0} (p : B → Bool) (f : A → B) (xs : List A) → list_any p (map f xs) ≡ list_any (λ x. p (f x)) xs
+any_map p f [] = refl
+any_map p f (x ∷ xs) = ap (λ b. p (f x) || b) (any_map p f xs)

@@ -16,7 +16,7 @@ use Rattle.css_selectors.specs.declared.selector.Test.TheVariants as v
 use Rattle.css_selectors.specs.declared.selector.Weight.{Weight}
 use Rattle.css_selectors.specs.Texts as s
 use Rattle.css_selectors.specs.Texts.{element_text, test_texts, compound_texts, part_texts, relative_texts, simple_texts}
-use Rattle.css_selectors.proofs.Mapped.{all_mapped}
+use Rattle.std.proofs.lemmas.List.Folds.{list_all-map}
 
 pub at_layer : (l : open_.Test-F Test Compound Part Relative Simple)
     → test_texts (roll-Test l) ≡ s.test_texts_step (map-Test Test Compound Part Relative Simple Bool Bool Bool Bool Bool test_texts compound_texts part_texts relative_texts simple_texts l)
@@ -48,22 +48,22 @@ pub at_lang : (x : List ℕ) → test_texts (v.Lang x) ≡ scalars x
 at_lang x = ap test_texts (sym (v.rolls-Lang x)) ∙ at_layer (open_.Lang x)
 
 pub at_any : (w : Weight) (list : List Compound) → test_texts (v.Any w list) ≡ list_all compound_texts list
-at_any w list = ap test_texts (sym (v.rolls-Any w list)) ∙ at_layer (open_.Any w list) ∙ all_mapped compound_texts list
+at_any w list = ap test_texts (sym (v.rolls-Any w list)) ∙ at_layer (open_.Any w list) ∙ list_all-map (λ b. b) compound_texts list
 
 pub at_has : (list : List Relative) → test_texts (v.Has list) ≡ list_all relative_texts list
-at_has list = ap test_texts (sym (v.rolls-Has list)) ∙ at_layer (open_.Has list) ∙ all_mapped relative_texts list
+at_has list = ap test_texts (sym (v.rolls-Has list)) ∙ at_layer (open_.Has list) ∙ list_all-map (λ b. b) relative_texts list
 
 pub at_compound : (c : Compound) → compound_texts c ≡ (element_text (out-Compound c).element && list_all simple_texts (out-Compound c).simples)
 unfolding test_texts compound_texts part_texts relative_texts simple_texts
-at_compound c = fold_out-Compound Bool Bool Bool Bool Bool s.test_texts_step s.compound_texts_step s.part_texts_step s.relative_texts_step s.simple_texts_step c ∙ ap (λ b. element_text (out-Compound c).element && b) (all_mapped simple_texts (out-Compound c).simples)
+at_compound c = fold_out-Compound Bool Bool Bool Bool Bool s.test_texts_step s.compound_texts_step s.part_texts_step s.relative_texts_step s.simple_texts_step c ∙ ap (λ b. element_text (out-Compound c).element && b) (list_all-map (λ b. b) simple_texts (out-Compound c).simples)
 
 pub at_part : (p : Part) → part_texts p ≡ (element_text (out-Part p).element && list_all simple_texts (out-Part p).simples)
 unfolding test_texts compound_texts part_texts relative_texts simple_texts
-at_part p = fold_out-Part Bool Bool Bool Bool Bool s.test_texts_step s.compound_texts_step s.part_texts_step s.relative_texts_step s.simple_texts_step p ∙ ap (λ b. element_text (out-Part p).element && b) (all_mapped simple_texts (out-Part p).simples)
+at_part p = fold_out-Part Bool Bool Bool Bool Bool s.test_texts_step s.compound_texts_step s.part_texts_step s.relative_texts_step s.simple_texts_step p ∙ ap (λ b. element_text (out-Part p).element && b) (list_all-map (λ b. b) simple_texts (out-Part p).simples)
 
 pub at_relative : (r : Relative) → relative_texts r ≡ list_all part_texts (out-Relative r).parts
 unfolding test_texts compound_texts part_texts relative_texts simple_texts
-at_relative r = fold_out-Relative Bool Bool Bool Bool Bool s.test_texts_step s.compound_texts_step s.part_texts_step s.relative_texts_step s.simple_texts_step r ∙ all_mapped part_texts (out-Relative r).parts
+at_relative r = fold_out-Relative Bool Bool Bool Bool Bool s.test_texts_step s.compound_texts_step s.part_texts_step s.relative_texts_step s.simple_texts_step r ∙ list_all-map (λ b. b) part_texts (out-Relative r).parts
 
 pub at_simple : (x : Simple) → simple_texts x ≡ test_texts x.test
 unfolding test_texts compound_texts part_texts relative_texts simple_texts

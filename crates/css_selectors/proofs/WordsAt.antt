@@ -15,7 +15,7 @@ use Rattle.css_selectors.specs.declared.selector.Test.TheVariants as v
 use Rattle.css_selectors.specs.declared.selector.Weight.{Weight}
 use Rattle.css_selectors.specs.Words as s
 use Rattle.css_selectors.specs.Words.{is_word_op, test_asks, compound_asks, part_asks, relative_asks, simple_asks}
-use Rattle.css_selectors.proofs.Mapped.{any_mapped}
+use Rattle.css_selectors.proofs.Mapped.{any_map}
 
 pub at_layer : (l : open_.Test-F Test Compound Part Relative Simple)
     → test_asks (roll-Test l) ≡ s.test_asks_step (map-Test Test Compound Part Relative Simple Bool Bool Bool Bool Bool test_asks compound_asks part_asks relative_asks simple_asks l)
@@ -47,22 +47,22 @@ pub at_lang : (x : List ℕ) → test_asks (v.Lang x) ≡ false
 at_lang x = ap test_asks (sym (v.rolls-Lang x)) ∙ at_layer (open_.Lang x)
 
 pub at_any : (w : Weight) (list : List Compound) → test_asks (v.Any w list) ≡ list_any compound_asks list
-at_any w list = ap test_asks (sym (v.rolls-Any w list)) ∙ at_layer (open_.Any w list) ∙ any_mapped compound_asks list
+at_any w list = ap test_asks (sym (v.rolls-Any w list)) ∙ at_layer (open_.Any w list) ∙ any_map (λ b. b) compound_asks list
 
 pub at_has : (list : List Relative) → test_asks (v.Has list) ≡ list_any relative_asks list
-at_has list = ap test_asks (sym (v.rolls-Has list)) ∙ at_layer (open_.Has list) ∙ any_mapped relative_asks list
+at_has list = ap test_asks (sym (v.rolls-Has list)) ∙ at_layer (open_.Has list) ∙ any_map (λ b. b) relative_asks list
 
 pub at_compound : (c : Compound) → compound_asks c ≡ list_any simple_asks (out-Compound c).simples
 unfolding test_asks compound_asks part_asks relative_asks simple_asks
-at_compound c = fold_out-Compound Bool Bool Bool Bool Bool s.test_asks_step s.compound_asks_step s.part_asks_step s.relative_asks_step s.simple_asks_step c ∙ any_mapped simple_asks (out-Compound c).simples
+at_compound c = fold_out-Compound Bool Bool Bool Bool Bool s.test_asks_step s.compound_asks_step s.part_asks_step s.relative_asks_step s.simple_asks_step c ∙ any_map (λ b. b) simple_asks (out-Compound c).simples
 
 pub at_part : (p : Part) → part_asks p ≡ list_any simple_asks (out-Part p).simples
 unfolding test_asks compound_asks part_asks relative_asks simple_asks
-at_part p = fold_out-Part Bool Bool Bool Bool Bool s.test_asks_step s.compound_asks_step s.part_asks_step s.relative_asks_step s.simple_asks_step p ∙ any_mapped simple_asks (out-Part p).simples
+at_part p = fold_out-Part Bool Bool Bool Bool Bool s.test_asks_step s.compound_asks_step s.part_asks_step s.relative_asks_step s.simple_asks_step p ∙ any_map (λ b. b) simple_asks (out-Part p).simples
 
 pub at_relative : (r : Relative) → relative_asks r ≡ list_any part_asks (out-Relative r).parts
 unfolding test_asks compound_asks part_asks relative_asks simple_asks
-at_relative r = fold_out-Relative Bool Bool Bool Bool Bool s.test_asks_step s.compound_asks_step s.part_asks_step s.relative_asks_step s.simple_asks_step r ∙ any_mapped part_asks (out-Relative r).parts
+at_relative r = fold_out-Relative Bool Bool Bool Bool Bool s.test_asks_step s.compound_asks_step s.part_asks_step s.relative_asks_step s.simple_asks_step r ∙ any_map (λ b. b) part_asks (out-Relative r).parts
 
 pub at_simple : (x : Simple) → simple_asks x ≡ test_asks x.test
 unfolding test_asks compound_asks part_asks relative_asks simple_asks
