@@ -1,5 +1,5 @@
 -- Some selectors, how specific they are, and whether they are well made.
-use Rattle.std.specs.Prelude.{◌≡◌, ℕ, zero, suc, true, false, List, [], ◌∷◌, Option, Some, None, codes, pos, negsuc}
+use Rattle.std.specs.Prelude.{◌≡◌, ℕ, zero, suc, Bool, true, false, List, [], ◌∷◌, Option, Some, None, codes, pos, negsuc}
 use Rattle.css_selectors.specs.declared.selector.Compound.{Compound, roll-Compound}
 use Rattle.css_selectors.specs.declared.selector.Link.{Link}
 use Rattle.css_selectors.specs.declared.selector.Link.TheVariants as link
@@ -16,7 +16,7 @@ use Rattle.css_selectors.specs.declared.selector.Test.{Test}
 use Rattle.css_selectors.specs.declared.selector.Test.TheVariants as test
 use Rattle.css_selectors.specs.declared.selector.Weight.TheVariants as weight
 use Rattle.css_selectors.specs.Specificity.{triple, triple_of}
-use Rattle.css_selectors.specs.WellMade.{WellMade}
+use Rattle.css_selectors.specs.WellMade.{FitsSimple, WellMade}
 
 abbrev pub part : Link → Option (List ℕ) → List Simple → Part
 part l name simples = roll-Part (record { link = l; element = name; simples = simples })
@@ -107,7 +107,7 @@ abbrev pub nested : ℕ → Simple
 nested zero = is (test.Any weight.Most (compound (Some (codes "a")) [] ∷ []))
 nested (suc n) = is (test.Any weight.Most (compound None (nested n ∷ []) ∷ []))
 
--- how specific they are, and which are well made: seven choices may stand around another, and eight may not
+-- how specific they are, and which are not well made: seven choices may stand around another, and eight may not
 pub record WorkedSelectors : Type 0 where
   pub odd_counts : triple_of odd_items ≡ triple 0 2 2
   pub middle_counts : triple_of middle_text ≡ triple 0 1 3
@@ -115,8 +115,7 @@ pub record WorkedSelectors : Type 0 where
   pub greatest_counts : triple_of one_of_two ≡ triple 1 0 1
   pub where_counts_nothing : triple_of neither ≡ triple 0 1 1
   pub first_counts : triple_of first_item ≡ triple 0 1 1
-  pub well_made : WellMade (record { items = odd_items ∷ middle_text ∷ neither ∷ first_item ∷ [] })
-  pub deep : WellMade (alone (single None (nested 7 ∷ [])))
+  pub deepest : (inside : Bool) (around : Option (List ℕ)) → FitsSimple 8 inside around (nested 7)
   pub needs_a_type : WellMade (alone first_of_any_type) → ⊥
   pub needs_a_type_around : WellMade (alone first_of_any) → ⊥
   pub too_deep : WellMade (alone (single None (nested 8 ∷ []))) → ⊥

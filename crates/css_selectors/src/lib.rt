@@ -2,9 +2,13 @@
 #![tactic(auto)]
 
 mod counts;
+mod laws;
 mod selector;
+#[cfg(test)]
+mod tests;
 
 pub use counts::specificity;
+pub use laws::worked_selectors;
 pub use selector::{
     Compound, Dialect, Link, Nth, Op, Part, Pseudo, Relative, Selector, SelectorList, Simple, Tail,
     Test, Triple, Weight,
