@@ -6,7 +6,7 @@ use Rattle.std.proofs.lemmas.Bool.{and_left, and_right, or_left, or_right, or_fr
 use Rattle.doc_model.specs.Document.{Document, row, below, IsDocument}
 use Rattle.doc_model.proofs.Below.{small, not_up}
 use Rattle.doc_model.proofs.WalkSteps.{IsOver, none_above, over_within}
-use Rattle.css_meaning.specs.declared.selector.Dialect.{Dialect}
+use Rattle.css_selectors.specs.declared.selector.Dialect.{Dialect}
 use Rattle.css_meaning.specs.Attributes.{has_value, lang_test}
 use Rattle.css_meaning.specs.Language.{lang_name, gives_language, is_nearest_language, lang_holds}
 use Rattle.css_meaning.specs.Nearest.{says}

@@ -1,24 +1,26 @@
 -- A search goes on to what is as promising: the nearest row that a link names stands for what earlier choices left open.
 use Rattle.std.proofs.Common.{◌≡◌, ℕ, zero, suc, ◌+◌, ◌-◌, ◌*◌, ◌<◌, ◌≤◌, true, false, ◌&&◌, eqb, List, [], ◌∷◌, length, get_or, refl, sym, ◌∙◌, ap, subst, arith, inl, inr, ◌⊎◌}
-use Rattle.std.specs.Prelude.{max}
+use Rattle.std.specs.Prelude.{max, reverse, Option}
 use Rattle.std.specs.Cmp.{both_ways as same_tests}
 use Rattle.std.proofs.Math.Nat.{mul-le-mul_right}
 use Rattle.std.proofs.lemmas.Bool.{and_parts, and_from, or_cases, or_left, or_right, cases_lt, eqb-true, eqb-false, eq-eqb, ltb-true, false_from_ne_true, both_ways}
 use Rattle.std.proofs.Common.{lt-ltb}
 use Rattle.doc_model.specs.Document.{Document, row, is_parent, below, IsDocument}
 use Rattle.doc_model.proofs.Below.{Small, small, below_root, below_cases, below_less, below_parent, below_up, below_trans}
-use Rattle.css_meaning.specs.declared.selector.Dialect.{Dialect}
-use Rattle.css_meaning.specs.declared.selector.Link.{Link}
-use Rattle.css_meaning.specs.declared.selector.Link.TheVariants as link
-use Rattle.css_meaning.specs.declared.selector.Part.{Part}
-use Rattle.css_meaning.specs.declared.matching.Mark.{Mark}
-use Rattle.css_meaning.specs.declared.matching.Search.{Search}
+use Rattle.css_selectors.specs.declared.selector.Dialect.{Dialect}
+use Rattle.css_selectors.specs.declared.selector.Link.{Link}
+use Rattle.css_selectors.specs.declared.selector.Link.TheVariants as link
+use Rattle.css_selectors.specs.declared.selector.Part.{Part, out-Part}
+use Rattle.css_meaning.specs.declared.searching.Mark.{Mark}
+use Rattle.css_meaning.specs.declared.searching.Search.{Search}
 use Rattle.css_meaning.proofs.Earlier.{Earlier, earlier, is_earlier_from, none_of_root, Nearest, nearest}
 use Rattle.css_meaning.proofs.Finding.{found, finds}
 use Rattle.css_meaning.proofs.Leftward.{IsStep, whole, first, split, join, unheld, element, some}
-use Rattle.css_meaning.specs.Matching.{holds, linked, matches_by, matches_back}
+use Rattle.css_meaning.proofs.HoldsAt.{held_element}
+use Rattle.css_meaning.specs.Holding.{holds}
+use Rattle.css_meaning.specs.Links.{linked}
 use Rattle.css_meaning.specs.Siblings.{is_earlier, is_nearest_earlier}
-use Rattle.css_meaning.specs.Searching.{is_matched, is_matched_before, is_matched_above, is_promising, is_outer, IsMark, IsFound, KeepsBefore, KeepsAbove, IsSearch, IsOnward}
+use Rattle.css_meaning.specs.Searching.{is_matched, is_matched_before, is_matched_above, is_promising, is_outer, is_end, leads_back, IsMark, IsFound, KeepsBefore, KeepsAbove, IsSearch, IsOnward}
 
 abbrev pub mark : ℕ → ℕ → Mark
 mark left row = record { left = left; row = row }
@@ -99,81 +101,81 @@ at_nearest doc y n x h near =
       | inr l ↦ inl (omega arith)
     ]
 
-one_nearest : (doc : Document) (y n x : ℕ) → Nearest doc y x → Nearest doc n x → y ≡ n
+pub one_nearest : (doc : Document) (y n x : ℕ) → Nearest doc y x → Nearest doc n x → y ≡ n
 one_nearest doc y n x h k =
     let a : y ≤ n = k.none y (is_earlier_from doc y x h.earlier) in
     let b : n ≤ y = h.none n (is_earlier_from doc n x k.earlier) in
     omega arith
 
-module _ (doc : Document) (d : Dialect) (parts : List Part) where
+module _ (doc : Document) (d : Dialect) (from : Option ℕ) (parts : List Part) where
   -- ---- what is promising
 
-  promise_at : (s : Search) → is_matched doc d parts s.at.left s.at.row ≡ true → is_promising doc d parts s ≡ true
+  promise_at : (s : Search) → is_matched doc d from parts s.at.left s.at.row ≡ true → is_promising doc d from parts s ≡ true
   unfolding is_promising
   promise_at s h = or_left _ _ h
 
-  promise_before : (s : Search) → s.sibling.row < length doc → IsFound doc d parts (is_earlier doc) s.sibling.left s.sibling.row → is_promising doc d parts s ≡ true
+  promise_before : (s : Search) → s.sibling.row < length doc → IsFound doc d from parts (is_earlier doc) s.sibling.left s.sibling.row → is_promising doc d from parts s ≡ true
   unfolding is_promising
   promise_before s l f =
       let low : 0 ≤ f.0 = omega arith in
       let less : f.0 < s.sibling.row = (earlier doc f.0 s.sibling.row f.1).less in
       let high : f.0 < 0 + length doc = omega arith in
-      or_right (is_matched doc d parts s.at.left s.at.row) _
-      (or_left _ (is_matched_above doc d parts s.ancestor) (finds (λ z. is_earlier doc z s.sibling.row && is_matched doc d parts s.sibling.left z) 0 (length doc) f.0 low high (and_from _ _ f.1 f.2)))
+      or_right (is_matched doc d from parts s.at.left s.at.row) _
+      (or_left _ (is_matched_above doc d from parts s.ancestor) (finds (λ z. is_earlier doc z s.sibling.row && is_matched doc d from parts s.sibling.left z) 0 (length doc) f.0 low high (and_from _ _ f.1 f.2)))
 
-  promise_above : (s : Search) → Small doc → s.ancestor.row < length doc → IsFound doc d parts (below doc) s.ancestor.left s.ancestor.row → is_promising doc d parts s ≡ true
+  promise_above : (s : Search) → Small doc → s.ancestor.row < length doc → IsFound doc d from parts (below doc) s.ancestor.left s.ancestor.row → is_promising doc d from parts s ≡ true
   unfolding is_promising
   promise_above s m l f =
       let low : 0 ≤ f.0 = omega arith in
       let less : f.0 < s.ancestor.row = below_less doc f.0 s.ancestor.row m f.1 in
       let high : f.0 < 0 + length doc = omega arith in
-      or_right (is_matched doc d parts s.at.left s.at.row) _
-      (or_right (is_matched_before doc d parts s.sibling) _ (finds (λ z. below doc z s.ancestor.row && is_matched doc d parts s.ancestor.left z) 0 (length doc) f.0 low high (and_from _ _ f.1 f.2)))
+      or_right (is_matched doc d from parts s.at.left s.at.row) _
+      (or_right (is_matched_before doc d from parts s.sibling) _ (finds (λ z. below doc z s.ancestor.row && is_matched doc d from parts s.ancestor.left z) 0 (length doc) f.0 low high (and_from _ _ f.1 f.2)))
 
-  promises : (s : Search) → is_promising doc d parts s ≡ true
-      → (is_matched doc d parts s.at.left s.at.row ≡ true) ⊎ (IsFound doc d parts (is_earlier doc) s.sibling.left s.sibling.row ⊎ IsFound doc d parts (below doc) s.ancestor.left s.ancestor.row)
+  promises : (s : Search) → is_promising doc d from parts s ≡ true
+      → (is_matched doc d from parts s.at.left s.at.row ≡ true) ⊎ (IsFound doc d from parts (is_earlier doc) s.sibling.left s.sibling.row ⊎ IsFound doc d from parts (below doc) s.ancestor.left s.ancestor.row)
   unfolding is_promising
   promises s h =
-      elim (or_cases (is_matched doc d parts s.at.left s.at.row) _ h) [
+      elim (or_cases (is_matched doc d from parts s.at.left s.at.row) _ h) [
         | inl a ↦ inl a
-        | inr b ↦ inr (elim (or_cases (is_matched_before doc d parts s.sibling) (is_matched_above doc d parts s.ancestor) b) [
-          | inl e ↦ inl (let w = found (λ z. is_earlier doc z s.sibling.row && is_matched doc d parts s.sibling.left z) 0 (length doc) e in let two = and_parts _ _ w.3 in (w.0, two.0, two.1))
-          | inr e ↦ inr (let w = found (λ z. below doc z s.ancestor.row && is_matched doc d parts s.ancestor.left z) 0 (length doc) e in let two = and_parts _ _ w.3 in (w.0, two.0, two.1))
+        | inr b ↦ inr (elim (or_cases (is_matched_before doc d from parts s.sibling) (is_matched_above doc d from parts s.ancestor) b) [
+          | inl e ↦ inl (let w = found (λ z. is_earlier doc z s.sibling.row && is_matched doc d from parts s.sibling.left z) 0 (length doc) e in let two = and_parts _ _ w.3 in (w.0, two.0, two.1))
+          | inr e ↦ inr (let w = found (λ z. below doc z s.ancestor.row && is_matched doc d from parts s.ancestor.left z) 0 (length doc) e in let two = and_parts _ _ w.3 in (w.0, two.0, two.1))
         ])
       ]
 
   -- ---- a part holds, and its link leads on
 
-  keeps_sideways : (s : Search) (left : ℕ) (p : Part) (k : Link) (y : ℕ) → ((a b : ℕ) → linked doc k a b ≡ true → (row doc a).parent ≡ (row doc b).parent) → KeepsAbove doc d parts s.ancestor s.at
-      → IsStep parts left s.at.left p → p.link ≡ k → (row doc y).parent ≡ (row doc s.at.row).parent → KeepsAbove doc d parts s.ancestor (mark left y)
+  keeps_sideways : (s : Search) (left : ℕ) (p : Part) (k : Link) (y : ℕ) → ((a b : ℕ) → linked doc k a b ≡ true → (row doc a).parent ≡ (row doc b).parent) → KeepsAbove doc d from parts s.ancestor s.at
+      → IsStep parts left s.at.left p → (out-Part p).link ≡ k → (row doc y).parent ≡ (row doc s.at.row).parent → KeepsAbove doc d from parts s.ancestor (mark left y)
   keeps_sideways s left p k y sideways above st l e z b h =
       let v = above z b h in
-      let q = split doc d parts left s.at.left p k st l v.0 v.2 in
+      let q = split doc d from parts left s.at.left p k st l v.0 v.2 in
       (q.at, outer_same doc v.0 q.at s.at.row y (sideways q.at v.0 q.linked) e v.1, q.matched)
 
-  keeps_from_root : (left : ℕ) (m : Mark) → KeepsBefore doc d parts (mark left 0) m
+  keeps_from_root : (left : ℕ) (m : Mark) → KeepsBefore doc d from parts (mark left 0) m
   keeps_from_root left m z b h = absurd (both_ways _ (none_of_root doc z) b)
 
-  keeps_itself : IsDocument doc → (left y : ℕ) → KeepsAbove doc d parts (mark left y) (mark left y)
-  keeps_itself dd left y z b h = (z, above_outer doc z y (small doc dd) (some doc z dd (element doc d parts left z h)) b, h)
+  keeps_itself : IsDocument doc → (left y : ℕ) → KeepsAbove doc d from parts (mark left y) (mark left y)
+  keeps_itself dd left y z b h = (z, above_outer doc z y (small doc dd) (some doc z dd (element doc d from parts left z h)) b, h)
 
-  pub on_next : IsDocument doc → (s : Search) (left : ℕ) (p : Part) (y : ℕ) → IsSearch doc d parts s → IsStep parts left s.at.left p → p.link ≡ link.Next → holds doc d p s.at.row ≡ true
-      → is_nearest_earlier doc y s.at.row ≡ true → IsOnward doc d parts s (search_of (mark left y) s.sibling s.ancestor)
+  pub on_next : IsDocument doc → (s : Search) (left : ℕ) (p : Part) (y : ℕ) → IsSearch doc d from parts s → IsStep parts left s.at.left p → (out-Part p).link ≡ link.Next → holds doc d p s.at.row ≡ true
+      → is_nearest_earlier doc y s.at.row ≡ true → IsOnward doc d from parts s (search_of (mark left y) s.sibling s.ancestor)
   on_next dd s left p y w st l held near =
       let n = nearest doc y s.at.row w.at.row near in
       let counts : s.at.left ≡ suc left = st.counts in
       let behind : y < s.at.row = n.earlier.less in
       let within : y < length doc = (let h = w.at.row in omega arith) in
       let t = search_of (mark left y) s.sibling s.ancestor in
-      let before : KeepsBefore doc d parts s.sibling (mark left y) = λ z b h.
+      let before : KeepsBefore doc d from parts s.sibling (mark left y) = λ z b h.
       let v = w.before z b h in
-      let q = split doc d parts left s.at.left p link.Next st l v.0 v.2 in
+      let q = split doc d from parts left s.at.left p link.Next st l v.0 v.2 in
       let e = earlier doc q.at v.0 (and_parts _ _ q.linked).0 in
       (q.at, is_earlier_from doc q.at y (before_nearest doc q.at v.0 y s.at.row e (earlier doc v.0 s.at.row v.1) n), q.matched) in
-      let here : is_matched doc d parts s.at.left s.at.row ≡ true → is_promising doc d parts t ≡ true = λ h.
-      let q = split doc d parts left s.at.left p link.Next st l s.at.row h in
+      let here : is_matched doc d from parts s.at.left s.at.row ≡ true → is_promising doc d from parts t ≡ true = λ h.
+      let q = split doc d from parts left s.at.left p link.Next st l s.at.row h in
       let same : q.at ≡ y = one_nearest doc q.at y s.at.row (nearest doc q.at s.at.row w.at.row q.linked) n in
-      promise_at t (subst (λ v. is_matched doc d parts left v ≡ true) same q.matched) in
+      promise_at t (subst (λ v. is_matched doc d from parts left v ≡ true) same q.matched) in
       record {
         search = record {
           at = record { some = st.some; within = omega (arith, st.within); row = within };
@@ -185,7 +187,7 @@ module _ (doc : Document) (d : Dialect) (parts : List Part) where
         };
         same = same_tests _ _
             (λ h. elim (promises t h) [
-              | inl a ↦ promise_at s (join doc d parts left s.at.left p link.Next st l s.at.row held (record { at = y; within = within; linked = near; matched = a }))
+              | inl a ↦ promise_at s (join doc d from parts left s.at.left p link.Next st l s.at.row held (record { at = y; within = within; linked = near; matched = a }))
               | inr (inl b) ↦ promise_before s w.sibling.row b
               | inr (inr b) ↦ promise_above s (small doc dd) w.ancestor.row b
             ])
@@ -197,8 +199,8 @@ module _ (doc : Document) (d : Dialect) (parts : List Part) where
         less = falls_left s.ancestor.row s.sibling.row s.at.row y (length doc) (suc (length parts)) left s.at.left (omega arith) (omega arith);
       }
 
-  pub on_later : IsDocument doc → (s : Search) (left : ℕ) (p : Part) (y : ℕ) → IsSearch doc d parts s → IsStep parts left s.at.left p → p.link ≡ link.Later → holds doc d p s.at.row ≡ true
-      → is_nearest_earlier doc y s.at.row ≡ true → IsOnward doc d parts s (search_of (mark left y) (mark left y) s.ancestor)
+  pub on_later : IsDocument doc → (s : Search) (left : ℕ) (p : Part) (y : ℕ) → IsSearch doc d from parts s → IsStep parts left s.at.left p → (out-Part p).link ≡ link.Later → holds doc d p s.at.row ≡ true
+      → is_nearest_earlier doc y s.at.row ≡ true → IsOnward doc d from parts s (search_of (mark left y) (mark left y) s.ancestor)
   on_later dd s left p y w st l held near =
       let n = nearest doc y s.at.row w.at.row near in
       let counts : s.at.left ≡ suc left = st.counts in
@@ -206,18 +208,18 @@ module _ (doc : Document) (d : Dialect) (parts : List Part) where
       let within : y < length doc = (let h = w.at.row in omega arith) in
       let t = search_of (mark left y) (mark left y) s.ancestor in
       let marked : IsMark doc parts (mark left y) = record { some = st.some; within = omega (arith, st.within); row = within } in
-      let above : KeepsAbove doc d parts s.ancestor (mark left y) = keeps_sideways s left p link.Later y (λ a b h. (earlier doc a b h).parent) w.above st l n.earlier.parent in
-      let back : (z : ℕ) → z < length doc → is_earlier doc z s.at.row ≡ true → is_matched doc d parts left z ≡ true → is_promising doc d parts s ≡ true = λ z h e f.
-      promise_at s (join doc d parts left s.at.left p link.Later st l s.at.row held (record { at = z; within = h; linked = e; matched = f })) in
-      let here : is_matched doc d parts s.at.left s.at.row ≡ true → is_promising doc d parts t ≡ true = λ h.
-      let q = split doc d parts left s.at.left p link.Later st l s.at.row h in
+      let above : KeepsAbove doc d from parts s.ancestor (mark left y) = keeps_sideways s left p link.Later y (λ a b h. (earlier doc a b h).parent) w.above st l n.earlier.parent in
+      let back : (z : ℕ) → z < length doc → is_earlier doc z s.at.row ≡ true → is_matched doc d from parts left z ≡ true → is_promising doc d from parts s ≡ true = λ z h e f.
+      promise_at s (join doc d from parts left s.at.left p link.Later st l s.at.row held (record { at = z; within = h; linked = e; matched = f })) in
+      let here : is_matched doc d from parts s.at.left s.at.row ≡ true → is_promising doc d from parts t ≡ true = λ h.
+      let q = split doc d from parts left s.at.left p link.Later st l s.at.row h in
       elim (at_nearest doc q.at y s.at.row (earlier doc q.at s.at.row q.linked) n) [
-        | inl e ↦ promise_at t (subst (λ v. is_matched doc d parts left v ≡ true) e q.matched)
+        | inl e ↦ promise_at t (subst (λ v. is_matched doc d from parts left v ≡ true) e q.matched)
         | inr e ↦ promise_before t within (q.at, is_earlier_from doc q.at y e, q.matched)
       ] in
-      let there : IsFound doc d parts (is_earlier doc) s.sibling.left s.sibling.row → is_promising doc d parts t ≡ true = λ f.
+      let there : IsFound doc d from parts (is_earlier doc) s.sibling.left s.sibling.row → is_promising doc d from parts t ≡ true = λ f.
       let v = w.before f.0 f.1 f.2 in
-      let q = split doc d parts left s.at.left p link.Later st l v.0 v.2 in
+      let q = split doc d from parts left s.at.left p link.Later st l v.0 v.2 in
       promise_before t within (q.at, is_earlier_from doc q.at y (before_nearest doc q.at v.0 y s.at.row (earlier doc q.at v.0 q.linked) (earlier doc v.0 s.at.row v.1) n), q.matched) in
       record {
         search = record { at = marked; sibling = marked; ancestor = w.ancestor; before = λ z b h. (z, b, h); above = above; above_sibling = λ _. above };
@@ -236,23 +238,23 @@ module _ (doc : Document) (d : Dialect) (parts : List Part) where
         less = falls_within s.ancestor.row s.sibling.row s.at.row y y (length doc) (suc (length parts)) left s.at.left (omega arith) (omega (arith, st.within));
       }
 
-  pub on_child : IsDocument doc → (s : Search) (left : ℕ) (p : Part) (y : ℕ) → IsSearch doc d parts s → IsStep parts left s.at.left p → p.link ≡ link.Child → holds doc d p s.at.row ≡ true
-      → (row doc s.at.row).parent ≡ y → IsOnward doc d parts s (search_of (mark left y) (mark left 0) s.ancestor)
+  pub on_child : IsDocument doc → (s : Search) (left : ℕ) (p : Part) (y : ℕ) → IsSearch doc d from parts s → IsStep parts left s.at.left p → (out-Part p).link ≡ link.Child → holds doc d p s.at.row ≡ true
+      → (row doc s.at.row).parent ≡ y → IsOnward doc d from parts s (search_of (mark left y) (mark left 0) s.ancestor)
   on_child dd s left p y w st l held up =
       let m = small doc dd in
       let counts : s.at.left ≡ suc left = st.counts in
-      let some_row : 0 < s.at.row = some doc s.at.row dd (and_parts _ _ held).0 in
+      let some_row : 0 < s.at.row = some doc s.at.row dd (held_element doc d p s.at.row held) in
       let less : (row doc s.at.row).parent < s.at.row = m s.at.row some_row in
       let within : y < length doc = (let h = w.at.row in omega arith) in
       let t = search_of (mark left y) (mark left 0) s.ancestor in
-      let above : KeepsAbove doc d parts s.ancestor (mark left y) = λ z b h.
+      let above : KeepsAbove doc d from parts s.ancestor (mark left y) = λ z b h.
       let v = w.above z b h in
-      let q = split doc d parts left s.at.left p link.Child st l v.0 v.2 in
+      let q = split doc d from parts left s.at.left p link.Child st l v.0 v.2 in
       let over : below doc q.at y ≡ true = subst (λ u. below doc u y ≡ true) (is_parent_of doc q.at v.0 q.linked).1 (subst (λ u. below doc (row doc v.0).parent u ≡ true) up v.1) in
-      (q.at, above_outer doc q.at y m (some doc q.at dd (element doc d parts left q.at q.matched)) over, q.matched) in
-      let here : (z : ℕ) → (row doc z).parent ≡ y → is_matched doc d parts s.at.left z ≡ true → is_promising doc d parts t ≡ true = λ z e h.
-      let q = split doc d parts left s.at.left p link.Child st l z h in
-      promise_at t (subst (λ v. is_matched doc d parts left v ≡ true) (sym (is_parent_of doc q.at z q.linked).1 ∙ e) q.matched) in
+      (q.at, above_outer doc q.at y m (some doc q.at dd (element doc d from parts left q.at q.matched)) over, q.matched) in
+      let here : (z : ℕ) → (row doc z).parent ≡ y → is_matched doc d from parts s.at.left z ≡ true → is_promising doc d from parts t ≡ true = λ z e h.
+      let q = split doc d from parts left s.at.left p link.Child st l z h in
+      promise_at t (subst (λ v. is_matched doc d from parts left v ≡ true) (sym (is_parent_of doc q.at z q.linked).1 ∙ e) q.matched) in
       record {
         search = record {
           at = record { some = st.some; within = omega (arith, st.within); row = within };
@@ -264,7 +266,7 @@ module _ (doc : Document) (d : Dialect) (parts : List Part) where
         };
         same = same_tests _ _
             (λ h. elim (promises t h) [
-              | inl a ↦ promise_at s (join doc d parts left s.at.left p link.Child st l s.at.row held
+              | inl a ↦ promise_at s (join doc d from parts left s.at.left p link.Child st l s.at.row held
                   (record { at = y; within = within; linked = subst (λ v. is_parent doc v s.at.row ≡ true) up (is_parent_from doc s.at.row some_row); matched = a }))
               | inr (inl b) ↦ absurd (both_ways _ (none_of_root doc b.0) b.1)
               | inr (inr b) ↦ promise_above s m w.ancestor.row b
@@ -277,27 +279,27 @@ module _ (doc : Document) (d : Dialect) (parts : List Part) where
         less = falls_within s.ancestor.row s.sibling.row s.at.row 0 y (length doc) (suc (length parts)) left s.at.left (omega arith) (omega (arith, st.within));
       }
 
-  pub on_descendant : IsDocument doc → (s : Search) (left : ℕ) (p : Part) (y : ℕ) → IsSearch doc d parts s → IsStep parts left s.at.left p → p.link ≡ link.Descendant → holds doc d p s.at.row ≡ true
-      → (row doc s.at.row).parent ≡ y → IsOnward doc d parts s (search_of (mark left y) (mark left 0) (mark left y))
+  pub on_descendant : IsDocument doc → (s : Search) (left : ℕ) (p : Part) (y : ℕ) → IsSearch doc d from parts s → IsStep parts left s.at.left p → (out-Part p).link ≡ link.Descendant → holds doc d p s.at.row ≡ true
+      → (row doc s.at.row).parent ≡ y → IsOnward doc d from parts s (search_of (mark left y) (mark left 0) (mark left y))
   on_descendant dd s left p y w st l held up =
       let m = small doc dd in
       let counts : s.at.left ≡ suc left = st.counts in
-      let some_row : 0 < s.at.row = some doc s.at.row dd (and_parts _ _ held).0 in
+      let some_row : 0 < s.at.row = some doc s.at.row dd (held_element doc d p s.at.row held) in
       let less : (row doc s.at.row).parent < s.at.row = m s.at.row some_row in
       let within : y < length doc = (let h = w.at.row in omega arith) in
       let t = search_of (mark left y) (mark left 0) (mark left y) in
       let marked : IsMark doc parts (mark left y) = record { some = st.some; within = omega (arith, st.within); row = within } in
-      let back : (z : ℕ) → z < length doc → below doc z s.at.row ≡ true → is_matched doc d parts left z ≡ true → is_promising doc d parts s ≡ true = λ z h e f.
-      promise_at s (join doc d parts left s.at.left p link.Descendant st l s.at.row held (record { at = z; within = h; linked = e; matched = f })) in
-      let here : (z : ℕ) → (row doc z).parent ≡ y → is_matched doc d parts s.at.left z ≡ true → is_promising doc d parts t ≡ true = λ z e h.
-      let q = split doc d parts left s.at.left p link.Descendant st l z h in
+      let back : (z : ℕ) → z < length doc → below doc z s.at.row ≡ true → is_matched doc d from parts left z ≡ true → is_promising doc d from parts s ≡ true = λ z h e f.
+      promise_at s (join doc d from parts left s.at.left p link.Descendant st l s.at.row held (record { at = z; within = h; linked = e; matched = f })) in
+      let here : (z : ℕ) → (row doc z).parent ≡ y → is_matched doc d from parts s.at.left z ≡ true → is_promising doc d from parts t ≡ true = λ z e h.
+      let q = split doc d from parts left s.at.left p link.Descendant st l z h in
       elim (above_parent doc q.at z m q.linked) [
-        | inl f ↦ promise_at t (subst (λ v. is_matched doc d parts left v ≡ true) (f ∙ e) q.matched)
+        | inl f ↦ promise_at t (subst (λ v. is_matched doc d from parts left v ≡ true) (f ∙ e) q.matched)
         | inr f ↦ promise_above t m within (q.at, subst (λ v. below doc q.at v ≡ true) e f, q.matched)
       ] in
-      let over : IsFound doc d parts (below doc) s.ancestor.left s.ancestor.row → is_promising doc d parts t ≡ true = λ f.
+      let over : IsFound doc d from parts (below doc) s.ancestor.left s.ancestor.row → is_promising doc d from parts t ≡ true = λ f.
       let v = w.above f.0 f.1 f.2 in
-      let q = split doc d parts left s.at.left p link.Descendant st l v.0 v.2 in
+      let q = split doc d from parts left s.at.left p link.Descendant st l v.0 v.2 in
       promise_above t m within (q.at, subst (λ u. below doc q.at u ≡ true) up (over_outer doc v.0 q.at s.at.row m v.1 q.linked), q.matched) in
       record {
         search = record {
@@ -325,23 +327,23 @@ module _ (doc : Document) (d : Dialect) (parts : List Part) where
 
   -- ---- no row to go on to
 
-  pub none_first : (s : Search) (left : ℕ) (p : Part) → IsStep parts left s.at.left p → p.link ≡ link.First → is_matched doc d parts s.at.left s.at.row ≡ false
-  none_first s left p st l = false_from_ne_true _ (λ h. let q = split doc d parts left s.at.left p link.First st l s.at.row h in let e = q.linked in cc)
+  pub none_first : (s : Search) (left : ℕ) (p : Part) → IsStep parts left s.at.left p → (out-Part p).link ≡ link.First → is_matched doc d from parts s.at.left s.at.row ≡ false
+  none_first s left p st l = false_from_ne_true _ (λ h. let q = split doc d from parts left s.at.left p link.First st l s.at.row h in let e = q.linked in cc)
 
-  pub none_next : (s : Search) (left : ℕ) (p : Part) → IsStep parts left s.at.left p → p.link ≡ link.Next → ((z : ℕ) → is_earlier doc z s.at.row ≡ false) → is_matched doc d parts s.at.left s.at.row ≡ false
+  pub none_next : (s : Search) (left : ℕ) (p : Part) → IsStep parts left s.at.left p → (out-Part p).link ≡ link.Next → ((z : ℕ) → is_earlier doc z s.at.row ≡ false) → is_matched doc d from parts s.at.left s.at.row ≡ false
   none_next s left p st l none = false_from_ne_true _ (λ h.
-      let q = split doc d parts left s.at.left p link.Next st l s.at.row h in
+      let q = split doc d from parts left s.at.left p link.Next st l s.at.row h in
       both_ways _ (none q.at) (and_parts _ _ q.linked).0)
 
-  pub none_later : (s : Search) (left : ℕ) (p : Part) → IsStep parts left s.at.left p → p.link ≡ link.Later → ((z : ℕ) → is_earlier doc z s.at.row ≡ false) → is_matched doc d parts s.at.left s.at.row ≡ false
+  pub none_later : (s : Search) (left : ℕ) (p : Part) → IsStep parts left s.at.left p → (out-Part p).link ≡ link.Later → ((z : ℕ) → is_earlier doc z s.at.row ≡ false) → is_matched doc d from parts s.at.left s.at.row ≡ false
   none_later s left p st l none = false_from_ne_true _ (λ h.
-      let q = split doc d parts left s.at.left p link.Later st l s.at.row h in
+      let q = split doc d from parts left s.at.left p link.Later st l s.at.row h in
       both_ways _ (none q.at) q.linked)
 
   -- ---- the search fails at its row
 
-  pub to_sibling : IsDocument doc → (s : Search) (y : ℕ) → IsSearch doc d parts s → is_matched doc d parts s.at.left s.at.row ≡ false → is_nearest_earlier doc y s.sibling.row ≡ true
-      → IsOnward doc d parts s (search_of (mark s.sibling.left y) (mark s.sibling.left y) s.ancestor)
+  pub to_sibling : IsDocument doc → (s : Search) (y : ℕ) → IsSearch doc d from parts s → is_matched doc d from parts s.at.left s.at.row ≡ false → is_nearest_earlier doc y s.sibling.row ≡ true
+      → IsOnward doc d from parts s (search_of (mark s.sibling.left y) (mark s.sibling.left y) s.ancestor)
   to_sibling dd s y w stuck near =
       let left = s.sibling.left in
       let n = nearest doc y s.sibling.row w.sibling.row near in
@@ -349,7 +351,7 @@ module _ (doc : Document) (d : Dialect) (parts : List Part) where
       let within : y < length doc = (let h = w.sibling.row in omega arith) in
       let t = search_of (mark left y) (mark left y) s.ancestor in
       let marked : IsMark doc parts (mark left y) = record { some = w.sibling.some; within = w.sibling.within; row = within } in
-      let above : KeepsAbove doc d parts s.ancestor (mark left y) = λ z b h.
+      let above : KeepsAbove doc d from parts s.ancestor (mark left y) = λ z b h.
       let v = w.above_sibling (omega arith) z b h in
       (v.0, outer_same doc v.0 v.0 s.sibling.row y refl n.earlier.parent v.1, v.2) in
       record {
@@ -363,7 +365,7 @@ module _ (doc : Document) (d : Dialect) (parts : List Part) where
             (λ h. elim (promises s h) [
               | inl a ↦ absurd (both_ways _ stuck a)
               | inr (inl b) ↦ elim (at_nearest doc b.0 y s.sibling.row (earlier doc b.0 s.sibling.row b.1) n) [
-                | inl e ↦ promise_at t (subst (λ v. is_matched doc d parts left v ≡ true) e b.2)
+                | inl e ↦ promise_at t (subst (λ v. is_matched doc d from parts left v ≡ true) e b.2)
                 | inr e ↦ promise_before t within (b.0, is_earlier_from doc b.0 y e, b.2)
               ]
               | inr (inr b) ↦ promise_above t (small doc dd) w.ancestor.row b
@@ -371,8 +373,8 @@ module _ (doc : Document) (d : Dialect) (parts : List Part) where
         less = falls_within s.ancestor.row s.sibling.row s.at.row y y (length doc) (suc (length parts)) left s.at.left (omega arith) (let h = w.sibling.within in omega arith);
       }
 
-  pub to_ancestor : IsDocument doc → (s : Search) (y : ℕ) → IsSearch doc d parts s → is_matched doc d parts s.at.left s.at.row ≡ false → ((z : ℕ) → is_earlier doc z s.sibling.row ≡ false)
-      → 0 < s.ancestor.row → (row doc s.ancestor.row).parent ≡ y → IsOnward doc d parts s (search_of (mark s.ancestor.left y) (mark s.ancestor.left 0) (mark s.ancestor.left y))
+  pub to_ancestor : IsDocument doc → (s : Search) (y : ℕ) → IsSearch doc d from parts s → is_matched doc d from parts s.at.left s.at.row ≡ false → ((z : ℕ) → is_earlier doc z s.sibling.row ≡ false)
+      → 0 < s.ancestor.row → (row doc s.ancestor.row).parent ≡ y → IsOnward doc d from parts s (search_of (mark s.ancestor.left y) (mark s.ancestor.left 0) (mark s.ancestor.left y))
   to_ancestor dd s y w stuck none some_row up =
       let m = small doc dd in
       let left = s.ancestor.left in
@@ -399,14 +401,14 @@ module _ (doc : Document) (d : Dialect) (parts : List Part) where
               | inl a ↦ absurd (both_ways _ stuck a)
               | inr (inl b) ↦ absurd (both_ways _ (none b.0) b.1)
               | inr (inr b) ↦ elim (above_parent doc b.0 s.ancestor.row m b.1) [
-                | inl e ↦ promise_at t (subst (λ v. is_matched doc d parts left v ≡ true) (e ∙ up) b.2)
+                | inl e ↦ promise_at t (subst (λ v. is_matched doc d from parts left v ≡ true) (e ∙ up) b.2)
                 | inr e ↦ promise_above t m within (b.0, subst (λ v. below doc b.0 v ≡ true) up e, b.2)
               ]
             ]);
         less = falls_up s.ancestor.row s.sibling.row s.at.row y 0 y (length doc) (suc (length parts)) left s.at.left (omega arith) (omega arith) (let h = w.ancestor.within in omega arith);
       }
 
-  pub exhausted : (s : Search) → is_matched doc d parts s.at.left s.at.row ≡ false → ((z : ℕ) → is_earlier doc z s.sibling.row ≡ false) → s.ancestor.row ≡ 0 → is_promising doc d parts s ≡ false
+  pub exhausted : (s : Search) → is_matched doc d from parts s.at.left s.at.row ≡ false → ((z : ℕ) → is_earlier doc z s.sibling.row ≡ false) → s.ancestor.row ≡ 0 → is_promising doc d from parts s ≡ false
   exhausted s stuck none root = false_from_ne_true _ (λ h.
       elim (promises s h) [
         | inl a ↦ both_ways _ stuck a
@@ -419,7 +421,7 @@ module _ (doc : Document) (d : Dialect) (parts : List Part) where
   abbrev pub begun : ℕ → Search
   begun e = search_of (mark (length parts) e) (mark (length parts) 0) (mark (length parts) 0)
 
-  pub begins : (e : ℕ) → 0 < length parts → e < length doc → IsSearch doc d parts (begun e)
+  pub begins : (e : ℕ) → 0 < length parts → e < length doc → IsSearch doc d from parts (begun e)
   begins e some_part within =
       let root : IsMark doc parts (mark (length parts) 0) = record { some = some_part; within = omega arith; row = omega arith } in
       record {
@@ -431,46 +433,57 @@ module _ (doc : Document) (d : Dialect) (parts : List Part) where
         above_sibling = λ h. absurd (omega arith);
       }
 
-  pub promises_all : IsDocument doc → (e : ℕ) → 0 < length doc → is_promising doc d parts (begun e) ≡ matches_by doc d parts e
+  pub promises_all : IsDocument doc → (e : ℕ) → 0 < length doc → is_promising doc d from parts (begun e) ≡ leads_back doc d from (reverse parts) e
   promises_all dd e within = same_tests _ _
       (λ h. elim (promises (begun e) h) [
-        | inl a ↦ sym (whole doc d parts e) ∙ a
+        | inl a ↦ sym (whole doc d from parts e) ∙ a
         | inr (inl b) ↦ absurd (both_ways _ (none_of_root doc b.0) b.1)
         | inr (inr b) ↦ absurd (both_ways _ (below_root doc b.0) b.1)
       ])
-      (λ h. promise_at (begun e) (whole doc d parts e ∙ h))
+      (λ h. promise_at (begun e) (whole doc d from parts e ∙ h))
 
   -- ---- as the code says it
 
-  pub step_of : (s : Search) (p : Part) → IsSearch doc d parts s → 1 < s.at.left → get_or parts (s.at.left - 1) p ≡ p → IsStep parts (s.at.left - 1) s.at.left p
+  pub step_of : (s : Search) (p : Part) → IsSearch doc d from parts s → 1 < s.at.left → get_or parts (s.at.left - 1) p ≡ p → IsStep parts (s.at.left - 1) s.at.left p
   step_of s p w more e = record { some = omega arith; counts = omega arith; within = (let h = w.at.within in omega arith); is = e }
 
-  pub made : (s t : Search) (a b c : Mark) → t.at ≡ a → t.sibling ≡ b → t.ancestor ≡ c → IsOnward doc d parts s (search_of a b c) → IsOnward doc d parts s t
+  pub made : (s t : Search) (a b c : Mark) → t.at ≡ a → t.sibling ≡ b → t.ancestor ≡ c → IsOnward doc d from parts s (search_of a b c) → IsOnward doc d from parts s t
   made s t a b c e f g w =
-      subst (IsOnward doc d parts s) (ap (λ v. search_of v b c) (sym e) ∙ (ap (λ v. search_of t.at v c) (sym f) ∙ ap (λ v. search_of t.at t.sibling v) (sym g))) w
+      subst (IsOnward doc d from parts s) (ap (λ v. search_of v b c) (sym e) ∙ (ap (λ v. search_of t.at v c) (sym f) ∙ ap (λ v. search_of t.at t.sibling v) (sym g))) w
 
-  pub fails : (s : Search) (p : Part) → IsSearch doc d parts s → get_or parts (s.at.left - 1) p ≡ p → holds doc d p s.at.row ≡ false → is_matched doc d parts s.at.left s.at.row ≡ false
+  -- the first part alone is tried
+  at_first : (s : Search) (p : Part) → IsSearch doc d from parts s → s.at.left ≡ 1 → get_or parts (s.at.left - 1) p ≡ p
+      → is_matched doc d from parts s.at.left s.at.row ≡ (holds doc d p s.at.row && is_end doc from (out-Part p).link s.at.row)
+  at_first s p w one e =
+      let zeroth : s.at.left - 1 ≡ 0 = omega arith in
+      ap (λ n. is_matched doc d from parts n s.at.row) one
+      ∙ first doc d from parts p (let k = w.at.within in omega arith) (subst (λ n. get_or parts n p ≡ p) zeroth e) s.at.row
+
+  one_left : (s : Search) → IsSearch doc d from parts s → s.at.left ≤ 1 → s.at.left ≡ 1
+  one_left s w few = omega (arith, w.at.some, few)
+
+  -- the part that is tried does not hold
+  pub fails : (s : Search) (p : Part) → IsSearch doc d from parts s → get_or parts (s.at.left - 1) p ≡ p → holds doc d p s.at.row ≡ false → is_matched doc d from parts s.at.left s.at.row ≡ false
   fails s p w e h =
       elim (cases_lt 1 s.at.left) [
-        | inl more ↦ unheld doc d parts (s.at.left - 1) s.at.left p (step_of s p w more e) s.at.row h
-        | inr none ↦ (let one : s.at.left ≡ 1 = (let k = w.at.some in omega arith) in ap (λ n. is_matched doc d parts n s.at.row) one ∙ (only_part s p w one e ∙ h))
+        | inl more ↦ unheld doc d from parts (s.at.left - 1) s.at.left p (step_of s p w more e) s.at.row h
+        | inr few ↦ at_first s p w (omega (arith, w.at.some, few)) e ∙ ap (λ b. b && is_end doc from (out-Part p).link s.at.row) h
       ]
-    where
-      only_part : (s : Search) (p : Part) → IsSearch doc d parts s → s.at.left ≡ 1 → get_or parts (s.at.left - 1) p ≡ p → is_matched doc d parts 1 s.at.row ≡ holds doc d p s.at.row
-      only_part s p w one e =
-          let zeroth : s.at.left - 1 ≡ 0 = omega arith in
-          first doc d parts p (let k = w.at.within in omega arith) (subst (λ n. get_or parts n p ≡ p) zeroth e) s.at.row
 
-  -- the first part holds, and all others are matched
-  pub reached : (s : Search) (p : Part) → IsSearch doc d parts s → s.at.left ≡ 1 → get_or parts (s.at.left - 1) p ≡ p → holds doc d p s.at.row ≡ true → is_promising doc d parts s ≡ true
-  reached s p w one e h =
-      let zeroth : s.at.left - 1 ≡ 0 = omega arith in
-      promise_at s (ap (λ n. is_matched doc d parts n s.at.row) one ∙ (first doc d parts p (let k = w.at.within in omega arith) (subst (λ n. get_or parts n p ≡ p) zeroth e) s.at.row ∙ h))
+  -- it holds, it is the first, and the search does not end there
+  pub stops : (s : Search) (p : Part) → IsSearch doc d from parts s → s.at.left ≤ 1 → get_or parts (s.at.left - 1) p ≡ p
+      → holds doc d p s.at.row ≡ true → is_end doc from (out-Part p).link s.at.row ≡ false → is_matched doc d from parts s.at.left s.at.row ≡ false
+  stops s p w few e h k = at_first s p w (one_left s w few) e ∙ ap (λ b. b && is_end doc from (out-Part p).link s.at.row) h ∙ k
+
+  -- it holds, and the search ends there
+  pub reached : (s : Search) (p : Part) → IsSearch doc d from parts s → s.at.left ≤ 1 → get_or parts (s.at.left - 1) p ≡ p
+      → holds doc d p s.at.row ≡ true → is_end doc from (out-Part p).link s.at.row ≡ true → is_promising doc d from parts s ≡ true
+  reached s p w few e h k = promise_at s (at_first s p w (one_left s w few) e ∙ and_from _ _ h k)
 
   pub begins_at : IsDocument doc → (t : Search) (e : ℕ) → t.at ≡ mark (length parts) e → t.sibling ≡ mark (length parts) 0 → t.ancestor ≡ mark (length parts) 0 → 0 < length parts → e < length doc
-      → IsSearch doc d parts t × (is_promising doc d parts t ≡ matches_by doc d parts e)
+      → IsSearch doc d from parts t × (is_promising doc d from parts t ≡ leads_back doc d from (reverse parts) e)
   begins_at dd t e f g h some_part within =
-      subst (λ u. IsSearch doc d parts u × (is_promising doc d parts u ≡ matches_by doc d parts e))
+      subst (λ u. IsSearch doc d from parts u × (is_promising doc d from parts u ≡ leads_back doc d from (reverse parts) e))
       (ap (λ v. search_of v (mark (length parts) 0) (mark (length parts) 0)) (sym f) ∙ (ap (λ v. search_of t.at v (mark (length parts) 0)) (sym g) ∙ ap (λ v. search_of t.at t.sibling v) (sym h)))
       (begins e some_part within, promises_all dd e (omega arith))
 
@@ -481,8 +494,8 @@ positive (suc x) h = omega arith
 pub some_part : (parts : List Part) → eqb (length parts) 0 ≡ false → 0 < length parts
 some_part parts h = positive (length parts) (eqb-false _ _ h)
 
--- without a part there is no match
-pub no_part : (doc : Document) (d : Dialect) (parts : List Part) (e : ℕ) → eqb (length parts) 0 ≡ true → matches_by doc d parts e ≡ false
-unfolding matches_back
-no_part doc d [] e h = refl
-no_part doc d (p ∷ ps) e h = absurd (let none : suc (length ps) ≡ 0 = eqb-true _ _ h in omega arith)
+-- without a part the search fails
+pub no_part : (doc : Document) (d : Dialect) (from : Option ℕ) (parts : List Part) (e : ℕ) → eqb (length parts) 0 ≡ true → leads_back doc d from (reverse parts) e ≡ false
+unfolding leads_back
+no_part doc d from [] e h = refl
+no_part doc d from (p ∷ ps) e h = absurd (let none : suc (length ps) ≡ 0 = eqb-true _ _ h in omega arith)

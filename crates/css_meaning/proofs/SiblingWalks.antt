@@ -9,8 +9,8 @@ use Rattle.doc_model.proofs.Below.{small, past_end, below_parent}
 use Rattle.doc_model.proofs.AxisWalks.{not_parent, parent_from, and_true, positive}
 use Rattle.doc_model.proofs.Filters.{upto_more, upto_none, upto_all}
 use Rattle.doc_model.proofs.WalkSteps.{one_if}
-use Rattle.css_meaning.specs.declared.selector.Nth.{Nth}
-use Rattle.css_meaning.specs.declared.selector.Nth.TheVariants as nth
+use Rattle.css_selectors.specs.declared.selector.Nth.{Nth}
+use Rattle.css_selectors.specs.declared.selector.Nth.TheVariants as nth
 use Rattle.css_meaning.specs.Siblings.{is_sibling, position}
 use Rattle.css_meaning.specs.SiblingWalks.{is_like, is_by_name, is_on_side, is_counted, IsSpan, IsBehind}
 use Rattle.css_meaning.proofs.Finding.{found, finds}
@@ -125,8 +125,11 @@ count_all doc kind e from to y s h l = ap (λ (v : List ℕ). suc (length v)) (u
 
 -- ---- that none passes a test
 
+pub none_any : (p : ℕ → Bool) (n : ℕ) → ((z : ℕ) → z < n → p z ≡ false) → list_any p (range_with_len 0 n) ≡ false
+none_any p n none = false_from_ne_true _ (λ h. let w = found p 0 n h in both_ways _ (none w.0 (omega (arith, w.2))) w.3)
+
 pub none_passes : (p : ℕ → Bool) (n : ℕ) → ((z : ℕ) → z < n → p z ≡ false) → not (list_any p (range_with_len 0 n)) ≡ true
-none_passes p n none = ap not (false_from_ne_true _ (λ h. let w = found p 0 n h in both_ways _ (none w.0 (omega (arith, w.2))) w.3))
+none_passes p n none = ap not (none_any p n none)
 
 pub one_passes : (p : ℕ → Bool) (n y : ℕ) → y < n → p y ≡ true → not (list_any p (range_with_len 0 n)) ≡ false
 one_passes p n y l h = ap not (finds p 0 n y (omega arith) (omega arith) h)

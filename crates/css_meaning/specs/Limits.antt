@@ -2,11 +2,11 @@
 use Rattle.std.specs.Prelude.{◌≡◌, ℕ, ◌^◌, ◌<◌, Bool, true, false, ◌==◌, IsTrue, length}
 use Rattle.std.specs.List.{list_any}
 use Rattle.doc_model.specs.Document.{Document, row, is_attribute}
-use Rattle.css_meaning.specs.declared.selector.SelectorList.{SelectorList}
-use Rattle.css_meaning.specs.declared.selector.Op.{Op}
-use Rattle.css_meaning.specs.declared.selector.Op.TheVariants as op
-use Rattle.css_meaning.specs.declared.selector.Test.{Test}
-use Rattle.css_meaning.specs.declared.selector.Test.TheVariants as test
+use Rattle.css_selectors.specs.declared.selector.SelectorList.{SelectorList}
+use Rattle.css_selectors.specs.declared.selector.Op.{Op}
+use Rattle.css_selectors.specs.declared.selector.Op.TheVariants as op
+use Rattle.css_selectors.specs.declared.selector.Test.{Test}
+use Rattle.css_selectors.specs.declared.selector.Test.TheVariants as test
 
 abbrev pub is_form_feed : ℕ → Bool
 is_form_feed c = c == 12
@@ -19,27 +19,3 @@ NoFormFeed doc = (r : ℕ) → IsTrue (is_attribute doc r) → list_any is_form_
 pub record Countable (doc : Document) : Type 0 where
   pub all_rows : length doc < 2 ^ 53
   pub values : (r : ℕ) → IsTrue (is_attribute doc r) → length (row doc r).text < 2 ^ 53
-
--- the test asks for one of the words of a value
-abbrev pub is_word_op : Op → Bool
-is_word_op op.Word = true
-is_word_op op.Exists = false
-is_word_op op.Equals = false
-is_word_op op.Dash = false
-is_word_op op.Prefix = false
-is_word_op op.Suffix = false
-is_word_op op.Substring = false
-
-abbrev pub is_word_test : Test → Bool
-is_word_test (test.Class x) = true
-is_word_test (test.Attr name o v) = is_word_op o
-is_word_test (test.Element n) = false
-is_word_test (test.Id x) = false
-is_word_test (test.Nth kind a b) = false
-is_word_test (test.Pseudo p) = false
-is_word_test (test.Contains x) = false
-is_word_test (test.Lang x) = false
-
--- some selector of the list has such a test, negated or not
-abbrev pub asks_words : SelectorList → Bool
-asks_words list = list_any (λ s. list_any (λ p. list_any (λ x. is_word_test x.test) p.simples) s.parts) list.items

@@ -1,8 +1,8 @@
 -- How two neighbours of a selector stand to each other, the left one at x and the right one at y. Selectors Level 3, section 8.
 use Rattle.std.specs.Prelude.{ℕ, Bool, false}
 use Rattle.doc_model.specs.Document.{Document, is_parent, below}
-use Rattle.css_meaning.specs.declared.selector.Link.{Link}
-use Rattle.css_meaning.specs.declared.selector.Link.TheVariants as link
+use Rattle.css_selectors.specs.declared.selector.Link.{Link}
+use Rattle.css_selectors.specs.declared.selector.Link.TheVariants as link
 use Rattle.css_meaning.specs.Siblings.{is_earlier, is_nearest_earlier}
 
 -- x is an ancestor of y, its parent, the nearest element sibling before it, or some element sibling before it

@@ -1,7 +1,7 @@
 -- An only child is the first and the last. Selectors Level 3, sections 6.6.5.10 and 6.6.5.11.
 use Rattle.std.specs.Prelude.{◌≡◌, ℕ, ◌&&◌, pos}
 use Rattle.doc_model.specs.Document.{Document}
-use Rattle.css_meaning.specs.declared.selector.Nth.TheVariants as nth
+use Rattle.css_selectors.specs.declared.selector.Nth.TheVariants as nth
 use Rattle.css_meaning.specs.Nth.{is_nth}
 use Rattle.css_meaning.specs.Siblings.{is_sibling, is_of_type, is_only, position}
 

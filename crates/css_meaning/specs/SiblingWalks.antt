@@ -1,8 +1,8 @@
 -- Where the siblings of an element are looked for.
 use Rattle.std.specs.Prelude.{◌≡◌, ℕ, ◌<◌, ◌≤◌, Bool, true, false, ◌&&◌, nat_lt, length}
 use Rattle.doc_model.specs.Document.{Document, row}
-use Rattle.css_meaning.specs.declared.selector.Nth.{Nth}
-use Rattle.css_meaning.specs.declared.selector.Nth.TheVariants as nth
+use Rattle.css_selectors.specs.declared.selector.Nth.{Nth}
+use Rattle.css_selectors.specs.declared.selector.Nth.TheVariants as nth
 use Rattle.css_meaning.specs.Siblings.{is_sibling, is_of_type}
 
 -- y is a sibling of e, and has the name of e where that is asked

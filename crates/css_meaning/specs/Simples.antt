@@ -1,17 +1,17 @@
--- What each simple selector asks of an element e. Selectors Level 3, section 6.
+-- What the pseudo-classes without an argument ask of an element e. Selectors Level 3, section 6.6.
 use Rattle.std.specs.Prelude.{ℕ, Bool, false, ◌&&◌, ◌||◌, not, if◌then◌else◌, List, [], ◌∷◌, codes}
 use Rattle.std.specs.List.{list_any}
 use Rattle.text_base.specs.Strings.{contains, is_among}
 use Rattle.doc_model.specs.Document.{Document, row, rows, is_element, is_text, is_parent}
 use Rattle.doc_model.specs.StringValue.{string_value}
-use Rattle.css_meaning.specs.declared.selector.Dialect.{Dialect}
-use Rattle.css_meaning.specs.declared.selector.Dialect.TheVariants.{Generic, Html}
-use Rattle.css_meaning.specs.declared.selector.Op.TheVariants as op
-use Rattle.css_meaning.specs.declared.selector.Pseudo.{Pseudo}
-use Rattle.css_meaning.specs.declared.selector.Pseudo.TheVariants as pseudo
-use Rattle.css_meaning.specs.declared.selector.Simple.{Simple}
-use Rattle.css_meaning.specs.declared.selector.Test.{Test}
-use Rattle.css_meaning.specs.declared.selector.Test.TheVariants as test
+use Rattle.css_selectors.specs.declared.selector.Dialect.{Dialect}
+use Rattle.css_selectors.specs.declared.selector.Dialect.TheVariants.{Generic, Html}
+use Rattle.css_selectors.specs.declared.selector.Op.TheVariants as op
+use Rattle.css_selectors.specs.declared.selector.Pseudo.{Pseudo}
+use Rattle.css_selectors.specs.declared.selector.Pseudo.TheVariants as pseudo
+use Rattle.css_selectors.specs.declared.selector.Simple.{Simple}
+use Rattle.css_selectors.specs.declared.selector.Test.{Test}
+use Rattle.css_selectors.specs.declared.selector.Test.TheVariants as test
 use Rattle.css_meaning.specs.Names.{has_name}
 use Rattle.css_meaning.specs.Nth.{is_nth}
 use Rattle.css_meaning.specs.Siblings.{is_sibling, is_of_type, is_only, position}
@@ -63,18 +63,3 @@ pseudo_holds doc dialect pseudo.Link e = in_html dialect (is_link doc e)
 pseudo_holds doc dialect pseudo.Checked e = in_html dialect (is_checked doc e)
 pseudo_holds doc dialect pseudo.Enabled e = in_html dialect (is_enabled doc e)
 pseudo_holds doc dialect pseudo.Disabled e = in_html dialect (is_disabled doc e)
-
--- the test holds at e
-abbrev pub test_holds : Document → Dialect → Test → ℕ → Bool
-test_holds doc dialect (test.Element n) e = has_name doc dialect n e
-test_holds doc dialect (test.Id x) e = attribute_holds doc dialect (codes "id") op.Equals x e
-test_holds doc dialect (test.Class x) e = attribute_holds doc dialect (codes "class") op.Word x e
-test_holds doc dialect (test.Attr name o v) e = attribute_holds doc dialect name o v e
-test_holds doc dialect (test.Nth kind a b) e = is_nth a b (position doc kind e)
-test_holds doc dialect (test.Pseudo p) e = pseudo_holds doc dialect p e
-test_holds doc dialect (test.Contains x) e = contains (string_value doc e) x
-test_holds doc dialect (test.Lang x) e = lang_holds doc dialect x e
-
--- the simple holds at e; a negated one where its test does not
-unfoldable pub simple_holds : Document → Dialect → Simple → ℕ → Bool
-simple_holds doc dialect x e = if x.negated then not (test_holds doc dialect x.test e) else test_holds doc dialect x.test e

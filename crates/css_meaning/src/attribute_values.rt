@@ -4,10 +4,10 @@ ghost use Rattle.std.specs.Prelude.{◌≡◌};
 ghost use Rattle.std.specs.Str.{chars};
 ghost use Rattle.css_meaning.specs.Attributes as spec;
 
-use crate::selector::Op;
 use crate::texts::{
     begins, begins_in_any_case, ends, includes, is_nothing, is_text, stops_or_dash,
 };
+use css_selectors::Op;
 use text_base::{ByteKind, Space5, is_white, run_end};
 
 /// Any byte but a space, a tab, a line feed, a carriage return or a form feed.

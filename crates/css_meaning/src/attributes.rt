@@ -9,7 +9,7 @@ ghost use Rattle.css_meaning.specs.Names.{folded};
 
 use crate::attribute_values::value_passes;
 use crate::names::is_named;
-use crate::selector::{Dialect, Op};
+use css_selectors::{Dialect, Op};
 use doc_model::{Kind, Tree};
 
 fn is_attribute<T: Tree>(tree: &T, z: u32) -> bool

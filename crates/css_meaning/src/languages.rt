@@ -6,7 +6,7 @@ ghost use Rattle.css_meaning.specs.Nearest.{says};
 
 use crate::attribute_values::is_language;
 use crate::attributes::attribute_named;
-use crate::selector::Dialect;
+use css_selectors::Dialect;
 use doc_model::Tree;
 
 /// The name of the attribute that names a language.

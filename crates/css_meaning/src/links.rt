@@ -1,7 +1,10 @@
 ghost use Rattle.std.specs.Prelude.{◌≡◌, ◌<◌, ℕ, true, false, length, MatchOption};
-ghost use Rattle.doc_model.specs.Document.{is_element};
+ghost use Rattle.doc_model.specs.Document.{is_element, is_parent, below};
+ghost use Rattle.css_meaning.specs.Links.{linked};
 ghost use Rattle.css_meaning.specs.Siblings.{is_earlier, is_nearest_earlier};
 
+use crate::siblings::is_sibling;
+use css_selectors::Link;
 use doc_model::{Kind, Tree};
 
 /// Whether the row is an element.
@@ -35,4 +38,57 @@ pub fn earlier_sibling<T: Tree>(tree: &T, e: u32) -> Option<u32>
         }
     }
     None
+}
+
+/// Whether the row `y` is below `x`.
+fn is_below<T: Tree>(tree: &T, x: u32, y: u32) -> bool
+    requires row { x < length (T.document tree.now) }
+    requires other { y < length (T.document tree.now) }
+    ensures { result ≡ below (T.document tree.now) x y }
+{
+    x < y && y < tree.end(x)
+}
+
+/// Whether `x` is the parent of the row `y`.
+fn is_parent<T: Tree>(tree: &T, x: u32, y: u32) -> bool
+    requires { y < length (T.document tree.now) }
+    ensures { result ≡ is_parent (T.document tree.now) x y }
+{
+    y > 0 && tree.parent(y) == x
+}
+
+/// Whether `x` is an element sibling of the row `y` and stands before it.
+fn is_earlier<T: Tree>(tree: &T, x: u32, y: u32) -> bool
+    requires row { x < length (T.document tree.now) }
+    requires other { y < length (T.document tree.now) }
+    ensures { result ≡ is_earlier (T.document tree.now) x y }
+{
+    is_sibling(tree, y, x) && x < y
+}
+
+/// Whether `x` is the nearest element sibling before the row `y`.
+fn is_nearest_earlier<T: Tree>(tree: &T, x: u32, y: u32) -> bool
+    requires { y < length (T.document tree.now) }
+    ensures { result ≡ is_nearest_earlier (T.document tree.now) x y }
+{
+    match earlier_sibling(tree, y) {
+        None => false,
+        Some(nearest) => nearest == x,
+    }
+}
+
+/// Whether the row `x` stands to `y` as the combinator between them says. Selectors Level 3, section
+/// 8.
+pub fn is_linked<T: Tree>(tree: &T, link: Link, x: u32, y: u32) -> bool
+    requires row { x < length (T.document tree.now) }
+    requires other { y < length (T.document tree.now) }
+    ensures { result ≡ linked (T.document tree.now) link x y }
+{
+    match link {
+        Link::First => false,
+        Link::Descendant => is_below(tree, x, y),
+        Link::Child => is_parent(tree, x, y),
+        Link::Next => is_nearest_earlier(tree, x, y),
+        Link::Later => is_earlier(tree, x, y),
+    }
 }

@@ -1,7 +1,10 @@
 ghost use Rattle.std.specs.Prelude.{◌≡◌, ◌+◌, ◌<◌, ◌≤◌, length, OnOk};
 ghost use Rattle.doc_model.specs.Growing.{AwaitsText};
 
-use crate::{Dialect, Link, Nth, Part, Pseudo, Selector, Simple, Tail, Test, matches};
+use crate::matches;
+use css_selectors::{
+    Compound, Dialect, Link, Nth, Part, Pseudo, Relative, Selector, Simple, Tail, Test, Weight,
+};
 use doc_model::{Grow, Piece, Tree, VecGrow, VecTree};
 use std::alloc::Global;
 use std::test::Fail;
@@ -85,29 +88,64 @@ fn build(alloc: Global, steps: &[Step]) -> Result<VecTree, NoMemory>
 /// A simple selector of a test, or none.
 #[derive(Clone, Copy)]
 enum Wanted {
-    Any,
+    All,
     Class(&'static str),
     NotNamed(&'static str),
     Position(Nth, i64, i64),
     NotPosition(Nth, i64, i64),
     Empty,
     Contains(&'static str),
+    OneOf(&'static str, &'static str),
+    Neither(&'static str, &'static str),
+    Before(&'static str),
 }
 
 /// A part: its combinator, its name or `*`, and a simple selector.
 #[derive(Clone, Copy)]
 struct Asked(Link, &'static str, Wanted);
 
+/// `:is(name, .class)`
+fn one_of(alloc: Global, name: &str, class: &str) -> Result<Test, NoMemory> {
+    let simple = Simple {
+        negated: false,
+        test: Test::Class(Txt::of(alloc, class)?),
+    };
+    let named = Compound {
+        element: Some(Txt::of(alloc, name)?),
+        simples: Seq::from_vec(Vec::new(alloc)),
+    };
+    let classed = Compound {
+        element: None,
+        simples: Seq::from_vec(vec![in alloc; simple]?),
+    };
+    let list = vec![in alloc; named, classed]?;
+    Ok(Test::Any(Weight::Most, Seq::from_vec(list)))
+}
+
+/// `:has(+ name)`
+fn before(alloc: Global, name: &str) -> Result<Test, NoMemory> {
+    let part = Part {
+        link: Link::Next,
+        element: Some(Txt::of(alloc, name)?),
+        simples: Seq::from_vec(Vec::new(alloc)),
+    };
+    let parts = Seq::from_vec(vec![in alloc; part]?);
+    Ok(Test::Has(Seq::from_vec(vec![in alloc; Relative { parts }]?)))
+}
+
 /// The simple selector itself.
 fn simple_of(alloc: Global, wanted: Wanted) -> Result<Option<Simple>, NoMemory> {
     let (negated, test) = match wanted {
-        Wanted::Any => return Ok(None),
+        Wanted::All => return Ok(None),
         Wanted::Class(name) => (false, Test::Class(Txt::of(alloc, name)?)),
         Wanted::NotNamed(name) => (true, Test::Element(Some(Txt::of(alloc, name)?))),
         Wanted::Position(kind, a, b) => (false, Test::Nth(kind, a, b)),
         Wanted::NotPosition(kind, a, b) => (true, Test::Nth(kind, a, b)),
         Wanted::Empty => (false, Test::Pseudo(Pseudo::Empty)),
         Wanted::Contains(text) => (false, Test::Contains(Txt::of(alloc, text)?)),
+        Wanted::OneOf(name, class) => (false, one_of(alloc, name, class)?),
+        Wanted::Neither(name, class) => (true, one_of(alloc, name, class)?),
+        Wanted::Before(name) => (false, before(alloc, name)?),
     };
     Ok(Some(Simple { negated, test }))
 }
@@ -193,35 +231,35 @@ const NESTED: [Step; 12] = [
 
 /// `a + b ~ c`, which fails at the nearest `b`
 const RETRIED: [Asked; 3] = [
-    Asked(Link::First, "a", Wanted::Any),
-    Asked(Link::Next, "b", Wanted::Any),
-    Asked(Link::Later, "c", Wanted::Any),
+    Asked(Link::First, "a", Wanted::All),
+    Asked(Link::Next, "b", Wanted::All),
+    Asked(Link::Later, "c", Wanted::All),
 ];
 
 /// `a ~ b + c`
 const EARLIER: [Asked; 3] = [
-    Asked(Link::First, "a", Wanted::Any),
-    Asked(Link::Later, "b", Wanted::Any),
-    Asked(Link::Next, "c", Wanted::Any),
+    Asked(Link::First, "a", Wanted::All),
+    Asked(Link::Later, "b", Wanted::All),
+    Asked(Link::Next, "c", Wanted::All),
 ];
 
 /// `x ~ b ~ b`, where only one `b` follows the `x`
 const TWICE: [Asked; 3] = [
-    Asked(Link::First, "x", Wanted::Any),
-    Asked(Link::Later, "b", Wanted::Any),
-    Asked(Link::Later, "b", Wanted::Any),
+    Asked(Link::First, "x", Wanted::All),
+    Asked(Link::Later, "b", Wanted::All),
+    Asked(Link::Later, "b", Wanted::All),
 ];
 
 /// `a > b c`, which fails at the nearest `b` above
 const ABOVE: [Asked; 3] = [
-    Asked(Link::First, "a", Wanted::Any),
-    Asked(Link::Child, "b", Wanted::Any),
-    Asked(Link::Descendant, "c", Wanted::Any),
+    Asked(Link::First, "a", Wanted::All),
+    Asked(Link::Child, "b", Wanted::All),
+    Asked(Link::Descendant, "c", Wanted::All),
 ];
 
 /// `r > :nth-child(2n+1)`
 const ODD: [Asked; 2] = [
-    Asked(Link::First, "r", Wanted::Any),
+    Asked(Link::First, "r", Wanted::All),
     Asked(Link::Child, "*", Wanted::Position(Nth::Child, 2, 1)),
 ];
 
@@ -230,7 +268,7 @@ const NOT_FIRST: [Asked; 1] = [Asked(Link::First, "b", Wanted::NotPosition(Nth::
 
 /// `b > :not(c)`
 const OTHER: [Asked; 2] = [
-    Asked(Link::First, "b", Wanted::Any),
+    Asked(Link::First, "b", Wanted::All),
     Asked(Link::Child, "*", Wanted::NotNamed("c")),
 ];
 
@@ -245,9 +283,21 @@ const WITHIN: [Asked; 1] = [Asked(Link::First, "i", Wanted::Contains("bc"))];
 
 /// `B ~ C:empty`
 const UPPER: [Asked; 2] = [
-    Asked(Link::First, "B", Wanted::Any),
+    Asked(Link::First, "B", Wanted::All),
     Asked(Link::Later, "C", Wanted::Empty),
 ];
+
+/// `:is(b, .w)`
+const EITHER: [Asked; 1] = [Asked(Link::First, "*", Wanted::OneOf("b", "w"))];
+
+/// `r > :not(b, .w)`
+const NEITHER: [Asked; 2] = [
+    Asked(Link::First, "r", Wanted::All),
+    Asked(Link::Child, "*", Wanted::Neither("b", "w")),
+];
+
+/// `b:has(+ x)`
+const AHEAD: [Asked; 1] = [Asked(Link::First, "b", Wanted::Before("x"))];
 
 /// The rows that match, as they are printed.
 fn said(alloc: Global, steps: &[Step], dialect: Dialect, parts: &[Asked]) -> Result<String, Fail> {
@@ -270,6 +320,12 @@ fn matches_by_the_standard(rt: HostRuntime) -> Result<(), Fail> {
     assert_eq!(rt; got.as_str(), "[5]");
     let got = said(alloc, &SIBLINGS[..], Dialect::Generic, &CLASSED[..])?;
     assert_eq!(rt; got.as_str(), "[6]");
+    let got = said(alloc, &SIBLINGS[..], Dialect::Generic, &EITHER[..])?;
+    assert_eq!(rt; got.as_str(), "[3, 5, 6]");
+    let got = said(alloc, &SIBLINGS[..], Dialect::Generic, &NEITHER[..])?;
+    assert_eq!(rt; got.as_str(), "[2, 4]");
+    let got = said(alloc, &SIBLINGS[..], Dialect::Generic, &AHEAD[..])?;
+    assert_eq!(rt; got.as_str(), "[3]");
     let got = said(alloc, &NESTED[..], Dialect::Generic, &ABOVE[..])?;
     assert_eq!(rt; got.as_str(), "[4]");
     let got = said(alloc, &NESTED[..], Dialect::Generic, &OTHER[..])?;

@@ -7,7 +7,7 @@ ghost use Rattle.css_meaning.specs.SiblingWalks.{is_like, is_by_name, IsBehind, 
 ghost use Rattle.css_meaning.specs.Siblings.{is_sibling, is_of_type, is_only};
 ghost use Rattle.css_meaning.specs.Siblings as spec;
 
-use crate::selector::Nth;
+use css_selectors::Nth;
 use doc_model::{Kind, Tree};
 
 /// The rows from one on and before another.
@@ -24,7 +24,8 @@ fn is_element<T: Tree>(tree: &T, y: u32) -> bool
     matches!(tree.kind(y), Kind::Element)
 }
 
-fn is_sibling<T: Tree>(tree: &T, e: u32, y: u32) -> bool
+/// Whether `y` is an element with the parent of `e`.
+pub fn is_sibling<T: Tree>(tree: &T, e: u32, y: u32) -> bool
     requires row { e < length (T.document tree.now) }
     requires other { y < length (T.document tree.now) }
     ensures { result ≡ is_sibling (T.document tree.now) e y }

@@ -6,8 +6,8 @@ ghost use Rattle.css_meaning.specs.Attributes.{has_attribute, has_value};
 ghost use Rattle.css_meaning.specs.Simples as spec;
 
 use crate::attributes::{attribute_named, has_attribute};
-use crate::selector::Dialect;
 use crate::texts::is_one_of;
+use css_selectors::Dialect;
 use doc_model::Tree;
 
 /// Whether a row is the source of a link. Selectors Level 3, section 6.6.1.1.

@@ -1,6 +1,6 @@
 use crate::attribute_values::{is_language, value_passes};
 use crate::names::is_named;
-use crate::{Dialect, Op};
+use css_selectors::{Dialect, Op};
 
 #[test]
 fn compares_values(rt: HostRuntime) {

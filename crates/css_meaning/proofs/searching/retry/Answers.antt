@@ -1,23 +1,23 @@
 use Rattle.std.proofs.Common.{sym}
 use Rattle.css_meaning.proofs.Onward as onward
-use Rattle.css_meaning.proofs.matching.retry.Goals as goal
+use Rattle.css_meaning.proofs.searching.retry.Goals as goal
 
 pub returns-in-Some : goal.returns-in-Some
-returns-in-Some g c = λ d parts w stuck.
+returns-in-Some g c = λ d from parts w stuck.
     let doc = g.T.Tree.document c.args.tree.now in
     let s = c.args.search in
     let r = c.backwards.ensures in
-    onward.made doc d parts s c.backwards.result _ _ _ r.at r.sibling r.ancestor
-    (onward.to_sibling doc d parts (g.met.T.Tree.is_document c.args.tree.now) s c.in-Some.row w stuck c.in-Some.ensures)
+    onward.made doc d from parts s c.backwards.result _ _ _ r.at r.sibling r.ancestor
+    (onward.to_sibling doc d from parts (g.met.T.Tree.is_document c.args.tree.now) s c.in-Some.row w stuck c.in-Some.ensures)
 
 pub returns-in-None : goal.returns-in-None
-returns-in-None g c = λ d parts w stuck. onward.exhausted (g.T.Tree.document c.args.tree.now) d parts c.args.search stuck c.in-None.ensures c.if-search-eq0.true
+returns-in-None g c = λ d from parts w stuck. onward.exhausted (g.T.Tree.document c.args.tree.now) d from parts c.args.search stuck c.in-None.ensures c.if-search-eq0.true
 
 pub returns-in-None-2 : goal.returns-in-None-2
-returns-in-None-2 g c = λ d parts w stuck.
+returns-in-None-2 g c = λ d from parts w stuck.
     let doc = g.T.Tree.document c.args.tree.now in
     let s = c.args.search in
     let r = c.upwards.ensures in
-    onward.made doc d parts s c.upwards.result _ _ _ r.at r.sibling r.ancestor
-    (onward.to_ancestor doc d parts (g.met.T.Tree.is_document c.args.tree.now) s c.parent.result w stuck c.in-None.ensures
+    onward.made doc d from parts s c.upwards.result _ _ _ r.at r.sibling r.ancestor
+    (onward.to_ancestor doc d from parts (g.met.T.Tree.is_document c.args.tree.now) s c.parent.result w stuck c.in-None.ensures
     (onward.positive s.ancestor.row c.if-search-eq0.false) (sym c.parent.ensures))
