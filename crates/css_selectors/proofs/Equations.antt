@@ -10,10 +10,10 @@ use Rattle.css_selectors.specs.declared.selector.Compound.{Compound, out-Compoun
 use Rattle.css_selectors.specs.declared.selector.Part.{Part, out-Part}
 use Rattle.css_selectors.specs.declared.selector.Relative.{Relative, out-Relative}
 use Rattle.css_selectors.specs.declared.selector.Simple.{Simple, out-Simple}
-use Rattle.css_selectors.specs.declared.selector.Test.{Test}
+use Rattle.css_selectors.specs.declared.selector.Test.{Test, roll-Test}
 use Rattle.css_selectors.specs.declared.selector.Test.TheVariants as v
 use Rattle.css_selectors.specs.declared.selector.Test.TheOpen as open_
-use Rattle.css_selectors.specs.declared.selector.Test.TheFolds.{fold-roll-Test, fold_out-Compound, fold_out-Part, fold_out-Relative, fold_out-Simple}
+use Rattle.css_selectors.specs.declared.selector.Test.TheFolds.{map-Test, fold-roll-Test, fold_out-Compound, fold_out-Part, fold_out-Relative, fold_out-Simple}
 use Rattle.css_selectors.specs.declared.selector.Weight.{Weight}
 use Rattle.css_selectors.specs.declared.selector.Weight.TheVariants as weight
 use Rattle.css_selectors.specs.Sizes as z
@@ -51,10 +51,37 @@ pub size_of_simple : (x : Simple) → simple_size x ≡ 1 + test_size (out-Simpl
 unfolding simple_size test_size
 size_of_simple x = fold_out-Simple ℕ ℕ ℕ ℕ ℕ z.test_size_step z.compound_size_step z.part_size_step z.relative_size_step z.simple_size_step x
 
--- ---- specificity
+-- a test that holds no selectors
+size_of_layer : (l : open_.Test-F Test Compound Part Relative Simple) → test_size (roll-Test l)
+    ≡ z.test_size_step (map-Test Test Compound Part Relative Simple ℕ ℕ ℕ ℕ ℕ test_size compound_size part_size relative_size simple_size l)
+unfolding test_size compound_size part_size relative_size simple_size
+size_of_layer l = fold-roll-Test ℕ ℕ ℕ ℕ ℕ z.test_size_step z.compound_size_step z.part_size_step z.relative_size_step z.simple_size_step l
 
-abbrev Layer : Type 0
-Layer = open_.Test-F Test Compound Part Relative Simple
+pub size_of_element : (n : Option (List ℕ)) → test_size (v.Element n) ≡ 0
+size_of_element n = ap test_size (sym (v.rolls-Element n)) ∙ size_of_layer (open_.Element n)
+
+pub size_of_id : (x : List ℕ) → test_size (v.Id x) ≡ 0
+size_of_id x = ap test_size (sym (v.rolls-Id x)) ∙ size_of_layer (open_.Id x)
+
+pub size_of_class : (x : List ℕ) → test_size (v.Class x) ≡ 0
+size_of_class x = ap test_size (sym (v.rolls-Class x)) ∙ size_of_layer (open_.Class x)
+
+pub size_of_attr : (n : List ℕ) (o : Op) (x : List ℕ) → test_size (v.Attr n o x) ≡ 0
+size_of_attr n o x = ap test_size (sym (v.rolls-Attr n o x)) ∙ size_of_layer (open_.Attr n o x)
+
+pub size_of_nth : (k : Nth) (a b : ℤ) → test_size (v.Nth k a b) ≡ 0
+size_of_nth k a b = ap test_size (sym (v.rolls-Nth k a b)) ∙ size_of_layer (open_.Nth k a b)
+
+pub size_of_pseudo : (p : Pseudo) → test_size (v.Pseudo p) ≡ 0
+size_of_pseudo p = ap test_size (sym (v.rolls-Pseudo p)) ∙ size_of_layer (open_.Pseudo p)
+
+pub size_of_contains : (x : List ℕ) → test_size (v.Contains x) ≡ 0
+size_of_contains x = ap test_size (sym (v.rolls-Contains x)) ∙ size_of_layer (open_.Contains x)
+
+pub size_of_lang : (x : List ℕ) → test_size (v.Lang x) ≡ 0
+size_of_lang x = ap test_size (sym (v.rolls-Lang x)) ∙ size_of_layer (open_.Lang x)
+
+-- ---- specificity
 
 pub at_element : (n : Option (List ℕ)) → test_triple (v.Element n) ≡ triple 0 0 (name_count n)
 unfolding test_triple

@@ -2,6 +2,7 @@ pub mod Bounds
 pub mod Equations
 pub mod Made
 pub mod Mapped
+mod TestSizes
 pub mod TextsAt
 pub mod Views
 pub mod WordsAt

@@ -3,7 +3,7 @@ use Rattle.std.proofs.lemmas.Bool.{eqb-true, eq-eqb}
 use Rattle.std.specs.Cmp.{both_ways as same_tests}
 use Rattle.css_meaning.specs.Siblings.{is_nearest_earlier}
 use Rattle.css_meaning.proofs.Earlier.{nearest}
-use Rattle.css_meaning.proofs.Onward.{one_nearest}
+use Rattle.css_meaning.proofs.Outward.{one_nearest}
 use Rattle.css_meaning.proofs.links.is_nearest_earlier.Goals as goal
 
 pub returns-in-Some : goal.returns-in-Some
