@@ -1,9 +1,9 @@
 -- What the sums of a specificity keep, turn by turn.
-use Rattle.std.proofs.Common.{◌≡◌, refl, ℕ, suc, ◌+◌, ◌<◌, ◌≤◌, Bool, true, false, cond, List, [], ◌∷◌, length, drop, get_or, sum_by, arith, ap, ◌∙◌, sym, map, subst}
+use Rattle.std.proofs.Common.{◌≡◌, ℕ, ◌+◌, ◌<◌, ◌≤◌, Bool, true, false, cond, List, ◌∷◌, length, drop, get_or, sum_by, arith, ap, ◌∙◌, sym}
 use Rattle.std.proofs.lemmas.List.{drop_more}
 use Rattle.std.proofs.lemmas.List.Sums.{sum_by-cons}
 use Rattle.css_selectors.specs.declared.selector.Triple.{Triple}
-use Rattle.css_selectors.specs.Specificity.{IsAtMost, plus, greater, is_less, sum_from, greatest_from}
+use Rattle.css_selectors.specs.Specificity.{IsAtMost, plus, greater, is_less}
 
 -- with so much left, no count comes to more than the total
 pub record Leaves (left total : ℕ) (t : Triple) : Type 0 where

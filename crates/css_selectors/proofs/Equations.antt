@@ -15,7 +15,6 @@ use Rattle.css_selectors.specs.declared.selector.Test.TheVariants as v
 use Rattle.css_selectors.specs.declared.selector.Test.TheOpen as open_
 use Rattle.css_selectors.specs.declared.selector.Test.TheFolds.{map-Test, fold-roll-Test, fold_out-Compound, fold_out-Part, fold_out-Relative, fold_out-Simple}
 use Rattle.css_selectors.specs.declared.selector.Weight.{Weight}
-use Rattle.css_selectors.specs.declared.selector.Weight.TheVariants as weight
 use Rattle.css_selectors.specs.Sizes as z
 use Rattle.css_selectors.specs.Sizes.{test_size, compound_size, part_size, relative_size, simple_size, total}
 use Rattle.css_selectors.specs.Specificity as s

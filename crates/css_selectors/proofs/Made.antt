@@ -1,8 +1,8 @@
 -- How a simple is shown to be well made, by the layer of its test, and a part by its fields.
-use Rattle.std.proofs.Common.{◌≡◌, ◌≢◌, refl, sym, ap, subst, ℕ, zero, suc, Bool, true, false, List, [], ◌∷◌, Option, Some, None, true≢false, arith, codes}
+use Rattle.std.proofs.Common.{◌≡◌, refl, sym, ap, subst, ℕ, zero, suc, Bool, true, false, List, [], ◌∷◌, Option, Some, None, true≢false, arith, codes}
 use Rattle.std.specs.Prelude.{All}
 use Rattle.std.proofs.lemmas.List.Elements.{All-cons, All-nil, recursion_from_All}
-use Rattle.css_selectors.specs.declared.selector.Compound.{Compound, out-Compound, roll-Compound}
+use Rattle.css_selectors.specs.declared.selector.Compound.{Compound, out-Compound}
 use Rattle.css_selectors.specs.declared.selector.Link.{Link}
 use Rattle.css_selectors.specs.declared.selector.Part.{Part, out-Part}
 use Rattle.css_selectors.specs.declared.selector.Relative.{Relative}

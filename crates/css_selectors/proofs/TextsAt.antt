@@ -1,5 +1,5 @@
 -- What the names and values of each form of selector are, one level at a time.
-use Rattle.std.proofs.Common.{◌≡◌, refl, sym, ◌∙◌, ap, ℕ, ℤ, Bool, true, ◌&&◌, List, map, Option}
+use Rattle.std.proofs.Common.{◌≡◌, sym, ◌∙◌, ap, ℕ, ℤ, Bool, true, ◌&&◌, List, Option}
 use Rattle.std.specs.List.{list_all}
 use lib.Utf8.{scalars}
 use Rattle.css_selectors.specs.declared.selector.Compound.{Compound, out-Compound}

@@ -1,5 +1,5 @@
 -- A claim on every test holds where it holds on every test that is closed from its level.
-use Rattle.std.proofs.Common.{◌≡◌, subst}
+use Rattle.std.proofs.Common.{subst}
 use Rattle.css_selectors.specs.declared.selector.Compound.{Compound}
 use Rattle.css_selectors.specs.declared.selector.Part.{Part}
 use Rattle.css_selectors.specs.declared.selector.Relative.{Relative}

@@ -1,20 +1,17 @@
 -- The worked selectors: what they count, and which are well made.
-use Rattle.std.proofs.Common.{◌≡◌, ◌≢◌, refl, sym, ℕ, suc, true, false, List, [], ◌∷◌, Option, Some, None, codes, arith, subst}
-use Rattle.std.specs.Prelude.{All, pos, negsuc}
-use Rattle.std.proofs.lemmas.List.Elements.{All-cons, All-nil, recursion_from_All}
+use Rattle.std.proofs.Common.{refl, ℕ, false, List, [], ◌∷◌, Option, None}
+use Rattle.std.specs.Prelude.{pos}
 use Rattle.css_selectors.specs.declared.selector.Link.TheVariants as link
 use Rattle.css_selectors.specs.declared.selector.Nth.TheVariants as nth
-use Rattle.css_selectors.specs.declared.selector.Part.{Part}
-use Rattle.css_selectors.specs.declared.selector.Selector.{Selector}
 use Rattle.css_selectors.specs.declared.selector.Simple.{Simple}
 use Rattle.css_selectors.specs.declared.selector.Test.TheOpen as open_
 use Rattle.css_selectors.specs.declared.selector.Test.TheVariants as v
 use Rattle.css_selectors.specs.declared.selector.Test.TheViews as views
 use Rattle.css_selectors.specs.declared.selector.Weight.TheVariants as weight
-use Rattle.css_selectors.specs.Examples.{WorkedSelectors, is, is_not, part, compound, single, alone, nested, first_of_any_type, first_of_any}
+use Rattle.css_selectors.specs.Examples.{WorkedSelectors, is, compound, single, alone, nested, first_of_any_type, first_of_any}
 use Rattle.css_selectors.specs.WellMade.{FitsSimple, IsPart, IsSelector, WellMade}
 use Rattle.css_selectors.proofs.Equations as e
-use Rattle.css_selectors.proofs.Made.{fits, fitted, part_fits, part_fitted, link_is, compound_fitted, Holds, one, only, nested_fits, nested_unfit}
+use Rattle.css_selectors.proofs.Made.{fitted, part_fitted, compound_fitted, Holds, only, nested_fits, nested_unfit}
 
 -- what the simple of a well made selector of one part has
 fits_single : (name : Option (List ℕ)) (x : Simple) → WellMade (alone (single name (x ∷ []))) → FitsSimple 8 false name x

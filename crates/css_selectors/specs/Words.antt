@@ -1,5 +1,5 @@
 -- Whether a selector asks for one of the words of an attribute's value, at any depth, negated or not.
-use Rattle.std.specs.Prelude.{ℕ, Bool, true, false, List}
+use Rattle.std.specs.Prelude.{Bool, true, false, List}
 use Rattle.std.specs.List.{list_any}
 use Rattle.css_selectors.specs.declared.selector.Compound.{Compound}
 use Rattle.css_selectors.specs.declared.selector.Op.{Op}

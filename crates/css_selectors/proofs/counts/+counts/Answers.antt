@@ -1,4 +1,4 @@
-use Rattle.std.proofs.Common.{rules, arith, ◌≡◌, refl, sym, ◌∙◌, ap, ℕ, ◌+◌, ◌≤◌, drop, map, sum_by, subst, List, ◌∷◌, []}
+use Rattle.std.proofs.Common.{rules, arith, ◌≡◌, refl, sym, ◌∙◌, ap, ◌+◌, drop, map, sum_by, subst}
 use Rattle.std.proofs.lemmas.Grind.{common_steps}
 use Rattle.std.proofs.lemmas.List.Sums.{sum_by-cons}
 use Rattle.css_selectors.specs.declared.selector.Triple.{Triple}
@@ -8,10 +8,8 @@ use Rattle.css_selectors.specs.declared.selector.Relative as relative
 use Rattle.css_selectors.specs.declared.selector.Simple as simple
 use Rattle.css_selectors.specs.declared.selector.Simple.{out-Simple}
 use Rattle.css_selectors.specs.declared.selector.Test as test
-use Rattle.css_selectors.specs.declared.selector.Weight.TheVariants as weight
-use Rattle.css_selectors.specs.declared.selector.Test.TheVariants as v
 use Rattle.css_selectors.specs.Sizes.{test_size, compound_size, part_size, relative_size, simple_size}
-use Rattle.css_selectors.specs.Specificity.{test_triple, compound_triple, part_triple, relative_triple, simple_triple, sum_from, IsAtMost, plus}
+use Rattle.css_selectors.specs.Specificity.{simple_triple, sum_from, plus}
 use Rattle.css_selectors.proofs.Bounds as b
 use Rattle.css_selectors.proofs.Equations as e
 use Rattle.css_selectors.proofs.counts.+counts.Goals as goal
