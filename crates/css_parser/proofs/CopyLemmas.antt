@@ -1,14 +1,21 @@
 -- Lists that are built by pushing.
-use Rattle.std.proofs.Common.{◌≡◌, ℕ, ◌+◌, ◌<◌, ◌≤◌, List, [], ◌∷◌, ◌++◌, length, take, get_or, map, flat_map, sym, ◌∙◌, ap}
+use Rattle.std.proofs.Common.{false, ◌≡◌, ℕ, ◌+◌, ◌<◌, ◌≤◌, List, [], ◌∷◌, ◌++◌, length, take, get_or, map, flat_map, sym, ◌∙◌, ap}
 use Rattle.std.specs.List.{fold}
 use Rattle.std.proofs.lemmas.List.{take_more, take_all, append-nil, map-append}
 use Rattle.std.proofs.lemmas.List.Sums.{fold_more}
 use Rattle.std.proofs.lemmas.Grind.{flat_map-append}
-use Rattle.css_meaning.specs.declared.selector.Simple.{Simple}
-use Rattle.css_meaning.specs.declared.selector.Tail.{Tail}
-use Rattle.css_parser.specs.declared.pieces.Form.{Form}
+use Rattle.css_selectors.specs.declared.selector.Simple.{Simple}
+use Rattle.css_selectors.specs.declared.selector.Tail.{Tail}
+use Rattle.css_parser.specs.declared.pieces.Form.{Form, roll-Form, out-Form}
+use Rattle.css_parser.specs.declared.pieces.Form.TheOpen as open_
+use Rattle.css_parser.specs.declared.pieces.Form.TheViews as views
+use Rattle.css_parser.specs.declared.pieces.Form.TheVariants as form
+use Rattle.css_parser.specs.declared.pieces.Piece.{Piece}
+use Rattle.css_parser.specs.declared.pieces.Word.{Word}
+use Rattle.css_parser.specs.declared.pieces.Inner.{Inner}
 use Rattle.css_parser.specs.declared.pieces.Compound.{Compound}
-use Rattle.css_parser.specs.Lists.{form_simples, part_of, tail_by, tail_after, tail_of, selector_of}
+use Rattle.css_parser.specs.Values.{form_simples, compound_of}
+use Rattle.css_parser.specs.Lists.{piece_tail, form_tail, part_of, tail_by, tail_after, tail_of, selector_of}
 
 pub nothing_more : (xs : List Simple) → xs ++ [] ≡ xs
 nothing_more xs = append-nil xs
@@ -24,17 +31,26 @@ simples_more xs i x l e =
     ap (flat_map form_simples) (longer xs i x l e) ∙ flat_map-append form_simples (take i xs) (x ∷ [])
     ∙ ap (λ ys. flat_map form_simples (take i xs) ++ ys) (append-nil (form_simples x))
 
+pub compounds_more : (xs : List Inner) (i : ℕ) (x : Inner) → i < length xs → x ≡ get_or xs i x → map compound_of (take (i + 1) xs) ≡ map compound_of (take i xs) ++ compound_of x ∷ []
+compounds_more xs i x l e = ap (map compound_of) (longer xs i x l e) ∙ map-append compound_of (take i xs) (x ∷ [])
+
 pub parts_more : (xs : List Compound) (i : ℕ) (x : Compound) → i < length xs → x ≡ get_or xs i x → map part_of (take (i + 1) xs) ≡ map part_of (take i xs) ++ part_of x ∷ []
 parts_more xs i x l e = ap (map part_of) (longer xs i x l e) ∙ map-append part_of (take i xs) (x ∷ [])
 
 pub selectors_more : (xs : List (List Compound)) (i : ℕ) (x : List Compound) → i < length xs → x ≡ get_or xs i x → map selector_of (take (i + 1) xs) ≡ map selector_of (take i xs) ++ selector_of x ∷ []
 selectors_more xs i x l e = ap (map selector_of) (longer xs i x l e) ∙ map-append selector_of (take i xs) (x ∷ [])
 
-abbrev form_tail : Tail → Form → Tail
-form_tail t x = tail_by t x.piece
+pub tail_more : (old : Tail) (xs : List Form) (i : ℕ) (x : Form) → i < length xs → x ≡ get_or xs i x → fold tail_by old (take (i + 1) xs) ≡ tail_by (fold tail_by old (take i xs)) x
+tail_more old xs i x l e = fold_more tail_by old xs i x l ∙ ap (tail_by (fold tail_by old (take i xs))) (sym e)
 
-pub tail_more : (old : Tail) (xs : List Form) (i : ℕ) (x : Form) → i < length xs → x ≡ get_or xs i x → fold form_tail old (take (i + 1) xs) ≡ tail_by (fold form_tail old (take i xs)) x.piece
-tail_more old xs i x l e = fold_more form_tail old xs i x l ∙ ap (form_tail (fold form_tail old (take i xs))) (sym e)
+pub one_tail : (old : Tail) (p : Piece) → tail_by old (form.One p) ≡ piece_tail old p
+one_tail old p = ap (tail_by old) (sym (form.rolls-One p)) ∙ ap (form_tail old) (views.out-roll-Form (open_.One p))
+
+pub choice_tail : (old : Tail) (w : Word) (xs : List Inner) → tail_by old (form.Choice w xs) ≡ old
+choice_tail old w xs = ap (tail_by old) (sym (form.rolls-Choice w xs)) ∙ ap (form_tail old) (views.out-roll-Form (open_.Choice w xs))
+
+pub deep_tail : (old : Tail) → tail_by old form.Deep ≡ old
+deep_tail old = ap (tail_by old) (sym (form.rolls-Deep)) ∙ ap (form_tail old) (views.out-roll-Form open_.Deep)
 
 pub tails_more : (xs : List Compound) (i : ℕ) (x : Compound) → i < length xs → x ≡ get_or xs i x → tail_of (take (i + 1) xs) ≡ tail_after (tail_of (take i xs)) x
 tails_more xs i x l e = fold_more tail_after _ xs i x l ∙ ap (tail_after (tail_of (take i xs))) (sym e)

@@ -3,23 +3,22 @@ use Rattle.std.proofs.Common.{◌≡◌, ℕ, ◌+◌, ◌<◌, ◌≤◌, Bool,
 use Rattle.std.specs.Prelude.{◌==◌, ◌&&◌, ◌||◌, nat_lt, Option, Some, None}
 use Rattle.std.proofs.lemmas.List.Sums.{prefix_len-le-length}
 use borrow.Author.Tests.{ltb-true}
-use Rattle.css_meaning.specs.declared.selector.Nth.{Nth}
-use Rattle.css_meaning.specs.declared.selector.Op.{Op}
-use Rattle.css_meaning.specs.declared.selector.Link.{Link}
-use Rattle.css_meaning.specs.declared.selector.Link.TheVariants as link
+use Rattle.css_selectors.specs.declared.selector.Nth.{Nth}
+use Rattle.css_selectors.specs.declared.selector.Op.{Op}
+use Rattle.css_selectors.specs.declared.selector.Link.{Link}
+use Rattle.css_selectors.specs.declared.selector.Link.TheVariants as link
 use Rattle.css_lexer.specs.declared.tokens.CssKind.TheVariants as kind
 use Rattle.css_lexer.specs.declared.tokens.CssToken.{CssToken}
 use Rattle.css_parser.specs.declared.nth.Line.{Line}
 use Rattle.css_parser.specs.declared.pieces.Piece.{Piece}
 use Rattle.css_parser.specs.declared.pieces.Read.{Read}
-use Rattle.css_parser.specs.declared.pieces.FormRead.{FormRead}
 use Rattle.css_parser.specs.declared.pieces.ElementRead.{ElementRead}
 use Rattle.css_parser.specs.declared.pieces.LinkRead.{LinkRead}
 use Rattle.css_parser.specs.Places.{code_at, stands, skip, is_name, is_word, is_space, text_at}
 use Rattle.css_parser.specs.Names.{nth_called}
 use Rattle.css_parser.specs.Simples as spec
 use Rattle.css_parser.specs.Grammar.{linked, combinator}
-use Rattle.css_parser.specs.Reading.{IsBehind, EndsElement, Ends, EndsForm, EndsLink}
+use Rattle.css_parser.specs.Reading.{IsBehind, EndsElement, Ends, EndsLink}
 use Rattle.css_parser.proofs.PlaceLemmas.{code_within, skip_order}
 
 both_true : (a b : Bool) → (a && b) ≡ true → (a ≡ true) × (b ≡ true)
@@ -165,7 +164,7 @@ module _ (text : List ℕ) (ts : List CssToken) where
   class_ends : (i : ℕ) → Ends ts i (spec.class ts i)
   class_ends i = ends_if i (stands kind.Ident ts (i + 1)) _ _ (λ h. two_behind i (here 3 (i + 1) (omega arith) h)) (λ _. tt)
 
-  piece_ends : (i : ℕ) → Ends ts i (spec.piece_at text ts i)
+  pub piece_ends : (i : ℕ) → Ends ts i (spec.piece_at text ts i)
   unfolding spec.piece_at
   piece_ends i =
       ends_if i (stands kind.Hash ts i) _ _ (λ h. behind i i (omega arith) (here 4 i (omega arith) h))
@@ -173,36 +172,6 @@ module _ (text : List ℕ) (ts : List CssToken) where
       (λ _. ends_if i (stands kind.OpenSquare ts i) _ _ (λ _. attribute_ends i)
       (λ _. ends_if i (stands kind.Colon ts i) _ _ (λ _. pseudo_class_ends i)
       (λ _. ends_if i (stands kind.DoubleColon ts i) _ _ (λ _. pseudo_element_ends i) (λ _. tt)))))
-
-  inner_by_ends : (i : ℕ) (e : Option ElementRead) (r : Option Read) → EndsElement ts i e → Ends ts i r → Ends ts i (spec.inner_by e r)
-  inner_by_ends i (Some e) r h k = h
-  inner_by_ends i None r h k = k
-
-  inner_ends : (i : ℕ) → Ends ts i (spec.inner text ts i)
-  unfolding spec.inner
-  inner_ends i = inner_by_ends i _ _ (element_ends i) (piece_ends i)
-
-  form_if : (a : ℕ) (b : Bool) (x y : Option FormRead) → (b ≡ true → EndsForm ts a x) → (b ≡ false → EndsForm ts a y) → EndsForm ts a (cond b x y)
-  form_if a true x y h k = h refl
-  form_if a false x y h k = k refl
-
-  negated_ends : (a i : ℕ) (r : Option Read) → a ≤ i → Ends ts i r → EndsForm ts a (spec.negated ts r)
-  negated_ends a i None low h = tt
-  negated_ends a i (Some r) low h =
-      let moves = h.moves in
-      form_if a (stands kind.CloseRound ts (skip ts r.end)) _ _ (λ e. behind a (skip ts r.end) (omega (arith, skip_order ts r.end)) (here 18 (skip ts r.end) (omega arith) e)) (λ _. tt)
-
-  negation_ends : (i : ℕ) → EndsForm ts i (spec.negation text ts i)
-  unfolding spec.negation
-  negation_ends i = negated_ends i (skip ts (i + 2)) _ (omega (arith, skip_order ts (i + 2))) (inner_ends (skip ts (i + 2)))
-
-  plain_ends : (i : ℕ) (r : Option Read) → Ends ts i r → EndsForm ts i (spec.not_negated r)
-  plain_ends i None h = tt
-  plain_ends i (Some r) h = h
-
-  pub simple_ends : (i : ℕ) → EndsForm ts i (spec.simple text ts i)
-  unfolding spec.simple
-  simple_ends i = form_if i (spec.begins_negation ts i) _ _ (λ _. negation_ends i) (λ _. plain_ends i _ (piece_ends i))
 
   link_if : (a : ℕ) (b : Bool) (x y : Option LinkRead) → (b ≡ true → EndsLink ts a x) → (b ≡ false → EndsLink ts a y) → EndsLink ts a (cond b x y)
   link_if a true x y h k = h refl

@@ -2,13 +2,13 @@
 use Rattle.std.proofs.Common.{◌≡◌, ℕ, zero, suc, ◌+◌, ◌<◌, ◌≤◌, Bool, true, false, List, [], ◌∷◌, ◌++◌, length, refl, sym, ◌∙◌, ap, subst, arith, inl, inr, ◌⊎◌}
 use Rattle.std.specs.Prelude.{Option, Some, None}
 use Rattle.std.proofs.lemmas.Bool.{cases_lt}
-use Rattle.css_meaning.specs.declared.selector.Link.{Link}
-use Rattle.css_meaning.specs.declared.selector.Link.TheVariants as link
+use Rattle.css_selectors.specs.declared.selector.Link.{Link}
+use Rattle.css_selectors.specs.declared.selector.Link.TheVariants as link
 use Rattle.css_lexer.specs.declared.tokens.CssKind.TheVariants as kind
 use Rattle.css_lexer.specs.declared.tokens.CssToken.{CssToken}
 use Rattle.css_lexer.specs.Tokens.{Lexes, Stops, most_bytes}
 use Rattle.css_lexer.proofs.Lexing.{lexes_or_stops}
-use Rattle.css_meaning.specs.declared.selector.SelectorList.{SelectorList}
+use Rattle.css_selectors.specs.declared.selector.SelectorList.{SelectorList}
 use Rattle.text_base.specs.declared.reasons.SelectorFault.{SelectorFault}
 use Rattle.text_base.specs.declared.reasons.SelectorFault.TheVariants as fault
 use Rattle.css_parser.specs.declared.pieces.Form.{Form}
@@ -20,20 +20,22 @@ use Rattle.css_parser.specs.declared.pieces.CompoundRead.{CompoundRead}
 use Rattle.css_parser.specs.declared.pieces.SelectorRead.{SelectorRead}
 use Rattle.css_parser.specs.declared.pieces.LinkRead.{LinkRead}
 use Rattle.css_parser.specs.Places.{stands, skip}
-use Rattle.css_parser.specs.Simples.{element, simple}
+use Rattle.css_parser.specs.Simples.{element}
+use Rattle.css_parser.specs.Choices.{simple}
 use Rattle.css_parser.specs.Grammar.{IsSelector, Reads, combinator}
 use Rattle.css_parser.specs.Reading.{EndsElement, EndsForm, EndsLink, IsFormsRead, IsCompoundRead, IsFurtherRead, IsWholeSelector, IsSelectorRead, IsReadUpTo}
 use Rattle.css_parser.specs.Lists.{list_of}
 use Rattle.css_parser.specs.Refusals.{refusal}
 use Rattle.css_parser.specs.Selecting.{Accepts, IsRefused, IsFault}
-use Rattle.css_parser.proofs.Endings.{skip_within, element_ends, simple_ends, combinator_ends}
+use Rattle.css_parser.proofs.Endings.{skip_within, element_ends, combinator_ends}
+use Rattle.css_parser.proofs.ChoiceLemmas.{simple_ends}
 use Rattle.css_parser.proofs.PlaceLemmas.{skip_order}
 use Rattle.css_parser.proofs.GrammarLemmas.{with_element, without_element, nothing, no_combinator, no_after, after_combinator, selector_begun, selector_push}
 use Rattle.css_parser.proofs.SelectingLemmas.{IsRefusal, MayRefuse, list_kind}
 use Rattle.css_parser.proofs.ListLemmas.{begun, went_on, finished, no_selector, no_comma}
 
 abbrev FormsAt : List ℕ → List CssToken → ℕ → Type 0
-FormsAt text ts i = (r : FormsRead) × IsFormsRead text ts i r
+FormsAt text ts i = (r : FormsRead) × IsFormsRead ts (simple text ts) i r
 
 abbrev CompoundAt : List ℕ → List CssToken → Link → ℕ → Type 0
 CompoundAt text ts l i = (r : Option CompoundRead) × IsCompoundRead text ts l i r
@@ -56,12 +58,12 @@ module _ (text : List ℕ) (ts : List CssToken) where
   no_forms i low e = (record { forms = []; end = i }, record { reads = refl; stops = e; order = omega arith; within = low })
 
   forms_some : (more i : ℕ) → i ≤ length ts → length ts ≤ i + more → FormsAt text ts i
-  forms_some zero i low near = by_simple (simple text ts i) refl (simple_ends text ts i)
+  forms_some zero i low near = by_simple (simple text ts i) refl (simple_ends text ts i low)
     where
       by_simple : (o : Option FormRead) → simple text ts i ≡ o → EndsForm ts i o → FormsAt text ts i
       by_simple None e h = no_forms i low e
       by_simple (Some r) e h = let moves = h.moves in let within = h.within in absurd (omega arith)
-  forms_some (suc more) i low near = by_simple (λ k within far. forms_some more k within far) (simple text ts i) refl (simple_ends text ts i)
+  forms_some (suc more) i low near = by_simple (λ k within far. forms_some more k within far) (simple text ts i) refl (simple_ends text ts i low)
     where
       by_simple : ((k : ℕ) → k ≤ length ts → length ts ≤ k + more → FormsAt text ts k) → (o : Option FormRead) → simple text ts i ≡ o → EndsForm ts i o → FormsAt text ts i
       by_simple go None e h = no_forms i low e
@@ -77,7 +79,7 @@ module _ (text : List ℕ) (ts : List CssToken) where
   compound_at : (l : Link) (i : ℕ) → i ≤ length ts → CompoundAt text ts l i
   compound_at l i low = by_element (element ts i) refl (element_ends text ts i)
     where
-      by_forms : (r : FormsRead) → element ts i ≡ None → IsFormsRead text ts i r → (xs : List Form) → r.forms ≡ xs → CompoundAt text ts l i
+      by_forms : (r : FormsRead) → element ts i ≡ None → IsFormsRead ts (simple text ts) i r → (xs : List Form) → r.forms ≡ xs → CompoundAt text ts l i
       by_forms r e h [] none = (None, nothing text ts i r e none h)
       by_forms r e h (x ∷ xs) some = (Some (record { compound = record { link = l; element = None; prefixed = false; forms = r.forms }; end = r.end }), without_element text ts i l r e (λ z. let both : x ∷ xs ≡ [] = sym some ∙ z in cc) h)
 
@@ -165,6 +167,7 @@ IsListOrFault text = ((list : SelectorList) × Accepts text list) ⊎ ((f : Sele
 fault_of : (text : List ℕ) (f : SelectorFault) → IsRefusal f → IsRefused text f → IsFault text f
 fault_of text fault.Prefix k h = h
 fault_of text fault.UnknownPseudo k h = h
+fault_of text fault.Nested k h = h
 fault_of text fault.OfType k h = h
 fault_of text fault.Number k h = h
 fault_of text fault.PseudoElement k h = h

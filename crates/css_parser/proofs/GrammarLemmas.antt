@@ -4,8 +4,8 @@ use Rattle.std.proofs.lemmas.Bool.Decides.{nat_tests}
 use Rattle.std.proofs.lemmas.Bool.{cases_lt}
 use Rattle.std.proofs.Common.{inl, inr}
 use Rattle.std.specs.Prelude.{◌==◌, ◌≢◌, ◌↔◌, IsTrue, Option, Some, None, nat_lt}
-use Rattle.css_meaning.specs.declared.selector.Link.{Link}
-use Rattle.css_meaning.specs.declared.selector.Link.TheVariants as link
+use Rattle.css_selectors.specs.declared.selector.Link.{Link}
+use Rattle.css_selectors.specs.declared.selector.Link.TheVariants as link
 use Rattle.css_lexer.specs.declared.tokens.CssKind.TheVariants as kind
 use Rattle.css_lexer.specs.declared.tokens.CssToken.{CssToken}
 use Rattle.css_parser.specs.declared.pieces.Form.{Form}
@@ -16,19 +16,13 @@ use Rattle.css_parser.specs.declared.pieces.FormsRead.{FormsRead}
 use Rattle.css_parser.specs.declared.pieces.CompoundRead.{CompoundRead}
 use Rattle.css_parser.specs.declared.pieces.LinkRead.{LinkRead}
 use Rattle.css_parser.specs.Places.{code_at, stands, skip, is_name}
-use Rattle.css_parser.specs.Simples.{past_prefix, name_at, element, simple, piece_at, form_read}
+use Rattle.css_parser.specs.Simples.{past_prefix, name_at, element, piece_at}
+use Rattle.css_parser.specs.Choices.{simple, form_read, simple_by, deep_by, word_at}
 use Rattle.css_parser.specs.Grammar.{Simples, HasElement, past_element, IsCompound, linked, combinator, Further, IsSelector}
 use Rattle.css_parser.specs.Reading.{NoCompound, NoFurther, IsEnd, IsFormsRead, IsWholeCompound, IsLinked}
 use Rattle.css_parser.proofs.PlaceLemmas.{skip_stop, code_end}
 
-pub not_empty : (b : Bool) (xs : List Form) → (IsTrue b ↔ (xs ≡ [])) → b ≡ false → xs ≢ []
-not_empty b xs both off e = let f : false ≡ true = sym off ∙ both.1 e in cc
-
 module _ (text : List ℕ) (ts : List CssToken) where
-  pub simples_push : (i j k : ℕ) (xs : List Form) (x : Form) → Simples text ts i xs j → simple text ts j ≡ Some (form_read x k) → Simples text ts i (xs ++ x ∷ []) k
-  simples_push i j k [] x h e = (k, ap (simple text ts) h ∙ e, refl)
-  simples_push i j k (y ∷ xs) x h e = (h.0, h.1, simples_push h.0 j k xs x h.2 e)
-
   -- two readings of which neither goes on are one
   pub record SameForms (xs ys : List Form) (j k : ℕ) : Type 0 where
     pub forms : xs ≡ ys
@@ -53,7 +47,7 @@ module _ (text : List ℕ) (ts : List CssToken) where
       record { forms = cons_same x y xs ys (ap (λ r. r.form) both) rest.forms; end = rest.end }
 
   -- a compound of its element and what stands behind
-  pub with_element : (i : ℕ) (l : Link) (e : ElementRead) (r : FormsRead) → element ts i ≡ Some e → i < e.end → IsFormsRead text ts e.end r
+  pub with_element : (i : ℕ) (l : Link) (e : ElementRead) (r : FormsRead) → element ts i ≡ Some e → i < e.end → IsFormsRead ts (simple text ts) e.end r
       → IsWholeCompound text ts l i (record { compound = record { link = l; element = e.name; prefixed = e.prefixed; forms = r.forms }; end = r.end })
   with_element i l e r is moves h = let order = h.order in record {
     link = refl;
@@ -73,7 +67,7 @@ module _ (text : List ℕ) (ts : List CssToken) where
       strict : (i ≡ j → ⊥) → i ≤ j → i < j
       strict other low = elim (cases_lt i j) [ inl l ↦ l | inr l ↦ absurd (other (omega arith)) ]
 
-  pub without_element : (i : ℕ) (l : Link) (r : FormsRead) → element ts i ≡ None → r.forms ≢ [] → IsFormsRead text ts i r
+  pub without_element : (i : ℕ) (l : Link) (r : FormsRead) → element ts i ≡ None → r.forms ≢ [] → IsFormsRead ts (simple text ts) i r
       → IsWholeCompound text ts l i (record { compound = record { link = l; element = None; prefixed = false; forms = r.forms }; end = r.end })
   without_element i l r is some h = record {
     link = refl;
@@ -95,7 +89,7 @@ module _ (text : List ℕ) (ts : List CssToken) where
       no_forms [] some g = some refl
       no_forms (x ∷ xs) some g = no_read i x g.0 g.1 f
 
-  pub nothing : (i : ℕ) (r : FormsRead) → element ts i ≡ None → r.forms ≡ [] → IsFormsRead text ts i r → NoCompound text ts i
+  pub nothing : (i : ℕ) (r : FormsRead) → element ts i ≡ None → r.forms ≡ [] → IsFormsRead ts (simple text ts) i r → NoCompound text ts i
   nothing i r e none h =
       let at : i ≡ r.end = subst (λ xs. Simples text ts i xs r.end) none h.reads in
       no_compound i e (ap (simple text ts) at ∙ h.stops)
@@ -121,27 +115,27 @@ module _ (text : List ℕ) (ts : List CssToken) where
 
   -- the tokens that no simple selector begins with
   quiet_space : (i : ℕ) → code_at ts i ≡ 1 → simple text ts i ≡ None
-  unfolding simple piece_at
+  unfolding simple_by word_at piece_at
   quiet_space i e = rw e refl
 
   quiet_plus : (i : ℕ) → code_at ts i ≡ 20 → simple text ts i ≡ None
-  unfolding simple piece_at
+  unfolding simple_by word_at piece_at
   quiet_plus i e = rw e refl
 
   quiet_greater : (i : ℕ) → code_at ts i ≡ 21 → simple text ts i ≡ None
-  unfolding simple piece_at
+  unfolding simple_by word_at piece_at
   quiet_greater i e = rw e refl
 
   quiet_tilde : (i : ℕ) → code_at ts i ≡ 22 → simple text ts i ≡ None
-  unfolding simple piece_at
+  unfolding simple_by word_at piece_at
   quiet_tilde i e = rw e refl
 
   pub quiet_comma : (i : ℕ) → code_at ts i ≡ 19 → simple text ts i ≡ None
-  unfolding simple piece_at
+  unfolding simple_by word_at piece_at
   quiet_comma i e = rw e refl
 
   pub quiet_end : (i : ℕ) → code_at ts i ≡ 0 → simple text ts i ≡ None
-  unfolding simple piece_at
+  unfolding simple_by word_at piece_at
   quiet_end i e = rw e refl
 
   kind_is : (i n : ℕ) → (code_at ts i == n) ≡ true → code_at ts i ≡ n

@@ -1,4 +1,6 @@
 pub mod ArgumentLemmas
+pub mod ChoiceFits
+pub mod ChoiceLemmas
 pub mod CopyLemmas
 pub mod Endings
 pub mod Existence
@@ -9,4 +11,6 @@ pub mod NthLemmas
 pub mod PlaceLemmas
 pub mod RefusalLemmas
 pub mod SelectingLemmas
+pub mod ValueFits
+pub mod ValueLemmas
 pub mod WellMadeLemmas

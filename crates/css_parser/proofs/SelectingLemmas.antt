@@ -1,19 +1,25 @@
 -- Which texts are lists, and why a text is none.
-use Rattle.std.proofs.Common.{◌≡◌, ℕ, ◌<◌, ◌≤◌, List, [], ◌∷◌, length, refl, sym, ◌∙◌, ap, subst, arith, Bool, true, false, ◌&&◌, ◌||◌, not}
+use Rattle.std.proofs.Common.{map, ◌≡◌, ℕ, ◌<◌, ◌≤◌, List, [], ◌∷◌, length, refl, sym, ◌∙◌, ap, subst, arith, Bool, true, false, ◌&&◌, ◌||◌, not}
 use Rattle.std.specs.Prelude.{Option, Some, None, Err}
 use Rattle.css_lexer.specs.declared.tokens.CssToken.{CssToken}
 use Rattle.css_lexer.specs.Tokens.{Lexes, Stops, IsLexed, most_bytes}
 use Rattle.css_lexer.proofs.EscapeLemmas.{cases_if}
 use Rattle.css_lexer.proofs.TokenLemmas.{one_list, not_both}
-use Rattle.css_meaning.specs.declared.selector.SelectorList.{SelectorList}
+use Rattle.css_selectors.specs.declared.selector.SelectorList.{SelectorList}
 use Rattle.text_base.specs.declared.reasons.SelectorFault.{SelectorFault}
 use Rattle.text_base.specs.declared.reasons.SelectorFault.TheVariants as fault
 use Rattle.css_parser.specs.declared.pieces.Piece.{Piece}
 use Rattle.css_parser.specs.declared.pieces.Piece.TheVariants as piece
-use Rattle.css_parser.specs.declared.pieces.Form.{Form}
+use Rattle.css_parser.specs.declared.pieces.Form.{Form, roll-Form}
+use Rattle.css_parser.specs.declared.pieces.Form.TheOpen as open_
+use Rattle.css_parser.specs.declared.pieces.Form.TheFolds as folds
+use Rattle.css_parser.specs.declared.pieces.Form.TheFolds.{ind-Form}
+use Rattle.css_parser.specs.declared.pieces.Form.TheViews as views
+use Rattle.css_parser.specs.declared.pieces.Inner.{Inner, roll-Inner}
+use Rattle.css_parser.proofs.RefusalLemmas.{roll_one, roll_choice, roll_deep, inner_is}
 use Rattle.css_parser.specs.declared.pieces.Compound.{Compound}
 use Rattle.css_parser.specs.Grammar.{Reads}
-use Rattle.css_parser.specs.Refusals.{or_else, if_refused, is_none, is_empty, is_of_type, needs_element, piece_refusal, form_refusal, forms_refusal, compound_refusal, selector_refusal, refusal}
+use Rattle.css_parser.specs.Refusals.{or_else, if_refused, is_none, is_empty, is_of_type, needs_element, piece_refusal, form_refusal, inner_refusal, inners_refusal, forms_refusal, compound_refusal, selector_refusal, refusal}
 use Rattle.css_parser.specs.Lists.{list_of}
 use Rattle.css_parser.specs.Selecting.{Accepts, IsUnread, IsRefused, IsFault, IsUnlisted}
 use Rattle.css_parser.specs.Reading.{IsListRead}
@@ -23,6 +29,7 @@ use Rattle.css_parser.proofs.ListLemmas.{reads_same}
 abbrev pub IsRefusal : SelectorFault → Type 0
 IsRefusal fault.Prefix = Unit {0}
 IsRefusal fault.UnknownPseudo = Unit {0}
+IsRefusal fault.Nested = Unit {0}
 IsRefusal fault.OfType = Unit {0}
 IsRefusal fault.Number = Unit {0}
 IsRefusal fault.PseudoElement = Unit {0}
@@ -40,17 +47,45 @@ when : (b : Bool) (f : SelectorFault) → IsRefusal f → MayRefuse (if_refused 
 when true f h = h
 when false f h = tt
 
-piece_kind : (nameless negated last : Bool) (p : Piece) → MayRefuse (piece_refusal nameless negated last p)
-piece_kind nameless negated last (piece.Plain t) = when (needs_element t && nameless) fault.OfType tt
-piece_kind nameless negated last piece.Prefixed = tt
-piece_kind nameless negated last piece.Unknown = tt
-piece_kind nameless negated last (piece.Large position) = cases_if (is_of_type position && nameless) fault.OfType fault.Number IsRefusal (λ _. tt) (λ _. tt)
-piece_kind nameless negated last (piece.Tail t) = when (negated || not last) fault.PseudoElement tt
-piece_kind nameless negated last piece.Strange = tt
+piece_kind : (nameless last : Bool) (p : Piece) → MayRefuse (piece_refusal nameless last p)
+piece_kind nameless last (piece.Plain t) = when (needs_element t && nameless) fault.OfType tt
+piece_kind nameless last piece.Prefixed = tt
+piece_kind nameless last piece.Unknown = tt
+piece_kind nameless last (piece.Large position) = cases_if (is_of_type position && nameless) fault.OfType fault.Number IsRefusal (λ _. tt) (λ _. tt)
+piece_kind nameless last (piece.Tail t) = when (not last) fault.PseudoElement tt
+piece_kind nameless last piece.Strange = tt
+
+abbrev FormKind : Form → Type 0
+FormKind x = (nameless last : Bool) → MayRefuse (form_refusal nameless last x)
+
+abbrev InnerKind : Inner → Type 0
+InnerKind x = (nameless : Bool) → MayRefuse (inner_refusal nameless x)
+
+each_forms : (nameless last : Bool) (xs : List ((x : Form) × FormKind x)) → MayRefuse (forms_refusal nameless last (map (λ e. e.0) xs))
+each_forms nameless last [] = tt
+each_forms nameless last (e ∷ xs) = either (form_refusal nameless (last && is_empty (map (λ d. d.0) xs)) e.0) (forms_refusal nameless last (map (λ d. d.0) xs)) (e.1 nameless (last && is_empty (map (λ d. d.0) xs))) (each_forms nameless last xs)
+
+each_inners : (nameless : Bool) (xs : List ((x : Inner) × InnerKind x)) → MayRefuse (inners_refusal nameless (map (λ e. e.0) xs))
+each_inners nameless [] = tt
+each_inners nameless (e ∷ xs) = either (inner_refusal nameless e.0) (inners_refusal nameless (map (λ d. d.0) xs)) (e.1 nameless) (each_inners nameless xs)
+
+form_step_kind : (y : open_.Form-F ((x : Form) × FormKind x) ((x : Inner) × InnerKind x)) → FormKind (roll-Form (folds.map-Form _ _ _ _ (λ e. e.0) (λ e. e.0) y))
+form_step_kind (open_.One p) nameless last = subst MayRefuse (sym (roll_one nameless last p)) (piece_kind nameless last p)
+form_step_kind (open_.Choice w xs) nameless last = subst MayRefuse (sym (roll_choice nameless last w (map (λ e. e.0) xs))) (each_inners nameless xs)
+form_step_kind open_.Deep nameless last = subst MayRefuse (sym (roll_deep nameless last)) tt
+
+inner_step_kind : (x : open_.Inner-F Form Inner) (xs : List ((x : Form) × FormKind x)) → map (λ e. e.0) xs ≡ x.forms → InnerKind (roll-Inner x)
+inner_step_kind x xs is nameless =
+    let there : MayRefuse (forms_refusal (nameless && is_none x.element) false x.forms) = subst (λ ys. MayRefuse (forms_refusal (nameless && is_none x.element) false ys)) is (each_forms (nameless && is_none x.element) false xs) in
+    subst MayRefuse (sym (inner_is nameless (roll-Inner x) ∙ ap (λ (d : open_.Inner-F Form Inner). or_else (if_refused d.prefixed fault.Prefix) (forms_refusal (nameless && is_none d.element) false d.forms)) (views.out-roll-Inner x)))
+    (either (if_refused x.prefixed fault.Prefix) _ (when x.prefixed fault.Prefix tt) there)
+
+form_kind : (x : Form) → FormKind x
+form_kind = ind-Form FormKind InnerKind (λ x y is. subst (λ z. FormKind (roll-Form z)) is (form_step_kind y)) (λ x y is. inner_step_kind x y.forms (ap (λ (d : open_.Inner-F Form Inner). d.forms) is))
 
 forms_kind : (nameless last : Bool) (xs : List Form) → MayRefuse (forms_refusal nameless last xs)
 forms_kind nameless last [] = tt
-forms_kind nameless last (x ∷ xs) = either (form_refusal nameless (last && is_empty xs) x) (forms_refusal nameless last xs) (piece_kind nameless x.negated (last && is_empty xs) x.piece) (forms_kind nameless last xs)
+forms_kind nameless last (x ∷ xs) = either (form_refusal nameless (last && is_empty xs) x) (forms_refusal nameless last xs) (form_kind x nameless (last && is_empty xs)) (forms_kind nameless last xs)
 
 compound_kind : (last : Bool) (c : Compound) → MayRefuse (compound_refusal last c)
 compound_kind last c = either (if_refused c.prefixed fault.Prefix) (forms_refusal (is_none c.element) last c.forms) (when c.prefixed fault.Prefix tt) (forms_kind (is_none c.element) last c.forms)
@@ -81,6 +116,7 @@ unread text ts _ h g = absurd g
 listed : (text : List ℕ) (f : SelectorFault) → IsRefusal f → IsRefused text f → IsUnlisted text f
 listed text fault.Prefix k h = h
 listed text fault.UnknownPseudo k h = h
+listed text fault.Nested k h = h
 listed text fault.OfType k h = h
 listed text fault.Number k h = h
 listed text fault.PseudoElement k h = h
@@ -110,6 +146,7 @@ cause text fault.XPathLong h = absurd h
 cause text fault.Memory h = absurd h
 cause text fault.Prefix h = is_refused h
 cause text fault.UnknownPseudo h = is_refused h
+cause text fault.Nested h = is_refused h
 cause text fault.OfType h = is_refused h
 cause text fault.Number h = is_refused h
 cause text fault.PseudoElement h = is_refused h

@@ -1,7 +1,7 @@
 -- Every accepted list is well made.
-use Rattle.std.proofs.Common.{◌≡◌, ℕ, ◌+◌, ◌*◌, ◌<◌, ◌≤◌, Bool, true, false, ◌&&◌, List, [], ◌∷◌, length, map, flat_map, refl, sym, ◌∙◌, ap, subst, arith, length-append}
+use Rattle.std.proofs.Common.{◌≡◌, ℕ, ◌+◌, ◌*◌, ◌<◌, ◌≤◌, Bool, true, false, ◌&&◌, List, [], ◌∷◌, length, map, flat_map, refl, sym, ◌∙◌, ap, subst, arith}
 use Rattle.std.specs.Prelude.{◌==◌, ◌≢◌, Option, Some, None, All, sum_by, nat_lt}
-use Rattle.std.proofs.lemmas.List.Elements.{All-nil, All-cons, All-append}
+use Rattle.std.proofs.lemmas.List.Elements.{All-nil, All-cons}
 use Rattle.std.proofs.lemmas.List.Sums.{sum_by-cons}
 use Rattle.css_lexer.proofs.EscapeLemmas.{cases_if}
 use Rattle.css_lexer.proofs.TokenPlaces.{few_tokens}
@@ -9,144 +9,107 @@ use Rattle.css_lexer.specs.declared.tokens.CssKind.TheVariants as kind
 use Rattle.css_lexer.specs.declared.tokens.CssToken.{CssToken}
 use Rattle.css_lexer.specs.Tokens.{Lexes}
 use Rattle.text_base.specs.declared.reasons.SelectorFault.{SelectorFault}
-use Rattle.css_meaning.specs.declared.selector.Link.TheVariants as link
-use Rattle.css_meaning.specs.declared.selector.Nth.{Nth}
-use Rattle.css_meaning.specs.declared.selector.Nth.TheVariants as nth
-use Rattle.css_meaning.specs.declared.selector.Part.{Part}
-use Rattle.css_meaning.specs.declared.selector.Pseudo.{Pseudo}
-use Rattle.css_meaning.specs.declared.selector.Pseudo.TheVariants as pseudo
-use Rattle.css_meaning.specs.declared.selector.SelectorList.{SelectorList}
-use Rattle.css_meaning.specs.declared.selector.Simple.{Simple}
-use Rattle.css_meaning.specs.declared.selector.Test.{Test}
-use Rattle.css_meaning.specs.declared.selector.Test.TheVariants as test
-use Rattle.css_meaning.specs.WellMade as made
-use Rattle.css_meaning.specs.WellMade.{WellMade, FitsTest, FitsKind, FitsPseudo}
-use Rattle.css_parser.specs.declared.pieces.Piece.{Piece}
-use Rattle.css_parser.specs.declared.pieces.Piece.TheVariants as piece
+use Rattle.css_selectors.specs.declared.selector.Compound as choice
+use Rattle.css_selectors.specs.declared.selector.Link.TheVariants as link
+use Rattle.css_selectors.specs.declared.selector.Part.{Part, out-Part}
+use Rattle.css_selectors.specs.declared.selector.Relative.{Relative}
+use Rattle.css_selectors.specs.declared.selector.SelectorList.{SelectorList}
+use Rattle.css_selectors.specs.declared.selector.Simple.{Simple}
+use Rattle.css_selectors.specs.declared.selector.Test.{Test}
+use Rattle.css_selectors.specs.declared.selector.Test.TheOpen as test_open
+use Rattle.css_selectors.specs.declared.selector.Test.TheViews as test_views
+use Rattle.css_selectors.specs.Sizes.{part_size, simple_size}
+use Rattle.css_selectors.specs.WellMade as made
+use Rattle.css_selectors.specs.WellMade.{WellMade}
+use Rattle.css_selectors.proofs.Equations.{size_of_part}
 use Rattle.css_parser.specs.declared.pieces.Form.{Form}
+use Rattle.css_parser.specs.declared.pieces.FormRead.{FormRead}
 use Rattle.css_parser.specs.declared.pieces.Compound.{Compound}
 use Rattle.css_parser.specs.declared.pieces.ElementRead.{ElementRead}
 use Rattle.css_parser.specs.declared.pieces.LinkRead.{LinkRead}
 use Rattle.css_parser.specs.Places.{code_at, stands, skip}
 use Rattle.css_parser.specs.Simples.{element}
+use Rattle.css_parser.specs.Choices.{simple}
 use Rattle.css_parser.specs.Grammar.{Simples, HasElement, past_element, IsCompound, linked, combinator, Further, IsSelector, Others, Reads}
-use Rattle.css_parser.specs.Refusals.{or_else, if_refused, is_none, is_empty, is_of_type, needs_element, is_only_of_type, form_refusal, piece_refusal, forms_refusal, compound_refusal, selector_refusal, refusal}
-use Rattle.css_parser.specs.Lists.{form_simples, simples_by, part_of, selector_of, list_of}
+use Rattle.css_parser.specs.Refusals.{if_refused, is_none, is_empty, forms_refusal, compound_refusal, selector_refusal, refusal}
+use Rattle.css_parser.specs.Values.{form_simples}
+use Rattle.css_parser.specs.Lists.{part_of, selector_of, list_of}
+use Rattle.css_parser.specs.Reading.{EndsForm}
 use Rattle.css_parser.specs.Selecting.{Accepts}
 use Rattle.css_parser.proofs.PlaceLemmas.{skip_order, skip_within, stands_within}
-use Rattle.css_parser.proofs.Fitting.{FitsAlone, FitsPiece, simple_good, element_behind}
+use Rattle.css_parser.proofs.Fitting.{element_behind}
+use Rattle.css_parser.proofs.ChoiceLemmas.{simple_ends}
+use Rattle.css_parser.proofs.ValueFits.{GivesForms, Neither, neither, forms_give}
+use Rattle.css_parser.proofs.ChoiceFits.{by_gives}
 
--- nothing is refused of either
-record Neither (o p : Option SelectorFault) : Type 0 where
-  first : o ≡ None
-  other : p ≡ None
+-- what is seen of a part
+abbrev PartLayer : Type 0
+PartLayer = test_open.Part-F Test choice.Compound Part Relative Simple
 
-neither : (o p : Option SelectorFault) → or_else o p ≡ None → Neither o p
-neither None p h = record { first = refl; other = h }
-neither (Some f) p h = cc
+part_is : (c : Compound) → out-Part (part_of c) ≡ record { link = c.link; element = c.element; simples = flat_map form_simples c.forms }
+part_is c = test_views.out-roll-Part (record { link = c.link; element = c.element; simples = flat_map form_simples c.forms })
 
-not_refused : (b : Bool) (f : SelectorFault) → if_refused b f ≡ None → b ≡ false
-not_refused true f h = cc
-not_refused false f h = refl
+part_link : (c : Compound) → (out-Part (part_of c)).link ≡ c.link
+part_link c = ap (λ (d : PartLayer). d.link) (part_is c)
 
--- tests in a compound
-kind_fits : (e : Option (List ℕ)) (position : Nth) → (is_of_type position && is_none e) ≡ false → FitsKind e position
-kind_fits e nth.Child h = tt
-kind_fits e nth.LastChild h = tt
-kind_fits None nth.OfType h = cc
-kind_fits (Some n) nth.OfType h = refl
-kind_fits None nth.LastOfType h = cc
-kind_fits (Some n) nth.LastOfType h = refl
-
-pseudo_fits : (e : Option (List ℕ)) (p : Pseudo) → (is_only_of_type p && is_none e) ≡ false → FitsPseudo e p
-pseudo_fits None pseudo.OnlyOfType h = cc
-pseudo_fits (Some n) pseudo.OnlyOfType h = refl
-pseudo_fits e _ h = tt
-
-test_fits : (e : Option (List ℕ)) (negated : Bool) (t : Test) → FitsAlone negated t → (needs_element t && is_none e) ≡ false → FitsTest e negated t
-test_fits e negated (test.Element n) f h = f
-test_fits e negated (test.Attr name o v) f h = f
-test_fits e negated (test.Nth position a b) f h = (f.0, f.1, kind_fits e position h)
-test_fits e negated (test.Pseudo p) f h = pseudo_fits e p h
-test_fits e negated (test.Id x) f h = tt
-test_fits e negated (test.Class x) f h = tt
-test_fits e negated (test.Contains x) f h = tt
-test_fits e negated (test.Lang x) f h = tt
-
-abbrev Fits : Option (List ℕ) → Simple → Type 0
-Fits e x = FitsTest e x.negated x.test
-
-piece_fits : (e : Option (List ℕ)) (negated last : Bool) (p : Piece) → FitsPiece negated p → piece_refusal (is_none e) negated last p ≡ None → All (Fits e) (simples_by negated p)
-piece_fits e negated last (piece.Plain t) f h = All-cons (Fits e) (record { negated = negated; test = t }) [] (test_fits e negated t f (not_refused (needs_element t && is_none e) _ h)) (All-nil (Fits e))
-piece_fits e negated last piece.Prefixed f h = All-nil (Fits e)
-piece_fits e negated last piece.Unknown f h = All-nil (Fits e)
-piece_fits e negated last (piece.Large position) f h = All-nil (Fits e)
-piece_fits e negated last (piece.Tail t) f h = All-nil (Fits e)
-piece_fits e negated last piece.Strange f h = All-nil (Fits e)
-
-one_simple : (negated : Bool) (p : Piece) → length (simples_by negated p) ≤ 1
-one_simple negated (piece.Plain t) = omega arith
-one_simple negated piece.Prefixed = omega arith
-one_simple negated piece.Unknown = omega arith
-one_simple negated (piece.Large position) = omega arith
-one_simple negated (piece.Tail t) = omega arith
-one_simple negated piece.Strange = omega arith
-
-few_simples : (xs : List Form) → length (flat_map form_simples xs) ≤ length xs
-few_simples [] = omega arith
-few_simples (x ∷ xs) = omega (arith, length-append (form_simples x) (flat_map form_simples xs), one_simple x.negated x.piece, few_simples xs)
+size_is : (c : Compound) → part_size (part_of c) ≡ 1 + sum_by simple_size (flat_map form_simples c.forms)
+size_is c = size_of_part (part_of c) ∙ ap (λ (d : PartLayer). 1 + sum_by simple_size d.simples) (part_is c)
 
 module _ (text : List ℕ) (ts : List CssToken) where
-  forms_fit : (e : Option (List ℕ)) (last : Bool) (i j : ℕ) (xs : List Form) → Simples text ts i xs j → forms_refusal (is_none e) last xs ≡ None → All (Fits e) (flat_map form_simples xs)
-  forms_fit e last i j [] h r = All-nil (Fits e)
-  forms_fit e last i j (x ∷ xs) h r =
-      let parts = neither (form_refusal (is_none e) (last && is_empty xs) x) (forms_refusal (is_none e) last xs) r in
-      All-append (Fits e) (form_simples x) (flat_map form_simples xs)
-      (piece_fits e x.negated (last && is_empty xs) x.piece (simple_good text ts i h.0 x h.1).fits parts.first)
-      (forms_fit e last h.0 j xs h.2 parts.other)
+  forms_given : (i j : ℕ) (xs : List Form) → i ≤ length ts → Simples text ts i xs j → GivesForms 8 i xs j
+  forms_given i j xs low h = forms_give ts 8 (simple text ts) (simple_ends text ts) (λ k l. by_gives text ts 8 k l) i j xs low h
 
-  part_fits : (last : Bool) (i j : ℕ) (c : Compound) → IsCompound text ts i c j → compound_refusal last c ≡ None → made.IsPart (part_of c)
-  part_fits last i j c h r =
-      let parts = neither (if_refused c.prefixed _) (forms_refusal (is_none c.element) last c.forms) r in
-      forms_fit c.element last (past_element (element ts i) i) j c.forms h.simples parts.other
+  forms_end : (i j : ℕ) (xs : List Form) → i ≤ length ts → Simples text ts i xs j → j ≤ length ts
+  forms_end i j [] low h = omega arith
+  forms_end i j (x ∷ xs) low h = let behind = subst (EndsForm ts i) h.1 (simple_ends text ts i low) in forms_end h.0 j xs behind.within h.2
 
-  -- how far simple selectors reach
-  record Reach (xs : List Form) (i j : ℕ) : Type 0 where
-    few : length xs + i ≤ j
-    within : j ≤ length ts
-
-  reach : (i j : ℕ) (xs : List Form) → i ≤ length ts → Simples text ts i xs j → Reach xs i j
-  reach i j [] l h = record { few = omega arith; within = omega arith }
-  reach i j (x ∷ xs) l h =
-      let good = simple_good text ts i h.0 x h.1 in
-      let moves = good.behind.moves in
-      let rest = reach h.0 j xs good.behind.within h.2 in
-      let few = rest.few in
-      record { few = omega arith; within = rest.within }
-
-  record Size (c : Compound) (i j : ℕ) : Type 0 where
-    size : 1 + length c.forms + 2 * i ≤ 2 * j
-    within : j ≤ length ts
-
-  some_length : (xs : List Form) → xs ≢ [] → 1 ≤ length xs
-  some_length [] h = absurd (h refl)
-  some_length (x ∷ xs) h = omega arith
-
-  size : (i j : ℕ) (c : Compound) → i ≤ length ts → IsCompound text ts i c j → Size c i j
-  size i j c l h = by_element (element ts i) refl
+  -- some forms end behind their place
+  forms_move : (i j : ℕ) (xs : List Form) → i ≤ length ts → Simples text ts i xs j → xs ≢ [] → i < j
+  forms_move i j [] low h some = absurd (some refl)
+  forms_move i j (x ∷ xs) low h some =
+      let behind = subst (EndsForm ts i) h.1 (simple_ends text ts i low) in
+      let moves = behind.moves in
+      let more = rest_order h.0 j xs behind.within h.2 in
+      omega arith
     where
-      by_element : (o : Option ElementRead) → element ts i ≡ o → Size c i j
+      rest_order : (i j : ℕ) (xs : List Form) → i ≤ length ts → Simples text ts i xs j → i ≤ j
+      rest_order i j [] low h = omega arith
+      rest_order i j (x ∷ xs) low h =
+          let behind = subst (EndsForm ts i) h.1 (simple_ends text ts i low) in
+          let moves = behind.moves in
+          let more = rest_order h.0 j xs behind.within h.2 in
+          omega arith
+
+  -- A compound is well made, and it has no more than two parts and simple selectors for each token.
+  record Given (c : Compound) (i j : ℕ) : Type 0 where
+    part : (last : Bool) → compound_refusal last c ≡ None → made.IsPart (part_of c)
+    size : part_size (part_of c) + 2 * i ≤ 2 * j
+    within : j ≤ length ts
+
+  of_forms : (i k j : ℕ) (c : Compound) → i ≤ k → i < j → j ≤ length ts → GivesForms 8 k c.forms j → Given c i j
+  of_forms i k j c le moves end g = record {
+    part = λ last r.
+        let parts = neither (if_refused c.prefixed _) (forms_refusal (is_none c.element) last c.forms) r in
+        subst (λ (d : PartLayer). All (made.FitsSimple 8 false d.element) d.simples) (sym (part_is c)) (g.fits c.element last parts.other);
+    size = omega (arith, size_is c, g.size);
+    within = end;
+  }
+
+  given : (i j : ℕ) (c : Compound) → i ≤ length ts → IsCompound text ts i c j → Given c i j
+  given i j c l h = by_element (element ts i) refl
+    where
+      by_element : (o : Option ElementRead) → element ts i ≡ o → Given c i j
       by_element None e =
-          let some = some_length c.forms (subst (λ o. HasElement o c) e h.begins).2 in
-          let far = reach i j c.forms l (subst (λ o. Simples text ts (past_element o i) c.forms j) e h.simples) in
-          let few = far.few in
-          record { size = omega arith; within = far.within }
+          let some = (subst (λ o. HasElement o c) e h.begins).2 in
+          let simples = subst (λ o. Simples text ts (past_element o i) c.forms j) e h.simples in
+          of_forms i i j c (omega arith) (forms_move i j c.forms l simples some) (forms_end i j c.forms l simples) (forms_given i j c.forms l simples)
       by_element (Some r) e =
           let behind = element_behind ts i r e in
           let moves = behind.moves in
-          let far = reach r.end j c.forms behind.within (subst (λ o. Simples text ts (past_element o i) c.forms j) e h.simples) in
-          let few = far.few in
-          record { size = omega arith; within = far.within }
+          let simples = subst (λ o. Simples text ts (past_element o i) c.forms j) e h.simples in
+          let g = forms_given r.end j c.forms behind.within simples in
+          let size = g.size in
+          of_forms i r.end j c (omega arith) (omega arith) (forms_end r.end j c.forms behind.within simples) g
 
   -- combinators
   record IsJoined (i : ℕ) (r : LinkRead) : Type 0 where
@@ -176,11 +139,8 @@ module _ (text : List ℕ) (ts : List CssToken) where
       (λ _ e. subst (IsJoined i) (some_link (linked ts link.Descendant i) r e) (record { other = λ f. cc; order = omega arith; within = λ l. skip_within ts i l }))
       (λ _ e. cc))))
 
-  abbrev part_size : Part → ℕ
-  part_size p = 1 + length p.simples
-
   abbrev IsOther : Part → Type 0
-  IsOther p = p.link ≢ link.First
+  IsOther p = (out-Part p).link ≢ link.First
 
   record Rest (cs : List Compound) (i j : ℕ) : Type 0 where
     links : All IsOther (map part_of cs)
@@ -193,12 +153,12 @@ module _ (text : List ℕ) (ts : List CssToken) where
   rest i j (c ∷ cs) l h r =
       let parts = neither (compound_refusal (is_empty cs) c) (selector_refusal cs) r in
       let join = joined i _ h.2 in
-      let first = size h.0 h.1 c (join.within l) h.3 in
+      let first = given h.0 h.1 c (join.within l) h.3 in
       let more = rest h.1 j cs first.within h.4 parts.other in
-      let low = join.order in let here = first.size in let there = more.size in let few = few_simples c.forms in
+      let low = join.order in let here = first.size in let there = more.size in
       record {
-        links = All-cons IsOther (part_of c) (map part_of cs) join.other more.links;
-        parts = All-cons made.IsPart (part_of c) (map part_of cs) (part_fits (is_empty cs) h.0 h.1 c h.3 parts.first) more.parts;
+        links = All-cons IsOther (part_of c) (map part_of cs) (λ e. join.other (sym (part_link c) ∙ e)) more.links;
+        parts = All-cons made.IsPart (part_of c) (map part_of cs) (first.part (is_empty cs) parts.first) more.parts;
         size = omega (arith, sum_by-cons part_size (part_of c) (map part_of cs));
         within = more.within;
       }
@@ -207,12 +167,12 @@ module _ (text : List ℕ) (ts : List CssToken) where
   selector_made i j [] few l h r = absurd h
   selector_made i j (c ∷ cs) few l h r =
       let parts = neither (compound_refusal (is_empty cs) c) (selector_refusal cs) r in
-      let first = size i h.0 c l h.2 in
+      let first = given i h.0 c l h.2 in
       let more = rest h.0 j cs first.within h.3 parts.other in
-      let here = first.size in let there = more.size in let fewer = few_simples c.forms in let end = more.within in
+      let here = first.size in let there = more.size in let end = more.within in
       record {
-        links = (h.1, more.links);
-        parts = All-cons made.IsPart (part_of c) (map part_of cs) (part_fits (is_empty cs) i h.0 c h.2 parts.first) more.parts;
+        links = (part_link c ∙ h.1, more.links);
+        parts = All-cons made.IsPart (part_of c) (map part_of cs) (first.part (is_empty cs) parts.first) more.parts;
         size = omega (arith, sum_by-cons part_size (part_of c) (map part_of cs));
       }
 
@@ -220,7 +180,7 @@ module _ (text : List ℕ) (ts : List CssToken) where
   selector_end i j [] l h r = absurd h
   selector_end i j (c ∷ cs) l h r =
       let parts = neither (compound_refusal (is_empty cs) c) (selector_refusal cs) r in
-      (rest h.0 j cs (size i h.0 c l h.2).within h.3 parts.other).within
+      (rest h.0 j cs (given i h.0 c l h.2).within h.3 parts.other).within
 
   others_made : (i : ℕ) (ss : List (List Compound)) → length ts ≤ 16384 → Others text ts i ss → refusal ss ≡ None → All made.IsSelector (map selector_of ss)
   others_made i [] few h r = All-nil made.IsSelector

@@ -1,7 +1,7 @@
 -- The grammar of lists of selectors, after Selectors Level 3, section 10.1, over the places of the tokens.
 use Rattle.std.specs.Prelude.{◌≡◌, ◌≢◌, ℕ, ◌+◌, nat_lt, true, false, if◌then◌else◌, List, [], ◌∷◌, length, Option, Some, None}
-use Rattle.css_meaning.specs.declared.selector.Link.{Link}
-use Rattle.css_meaning.specs.declared.selector.Link.TheVariants as link
+use Rattle.css_selectors.specs.declared.selector.Link.{Link}
+use Rattle.css_selectors.specs.declared.selector.Link.TheVariants as link
 use Rattle.css_lexer.specs.declared.tokens.CssKind.TheVariants as kind
 use Rattle.css_lexer.specs.declared.tokens.CssToken.{CssToken}
 use Rattle.css_parser.specs.declared.pieces.Form.{Form}
@@ -9,12 +9,12 @@ use Rattle.css_parser.specs.declared.pieces.Compound.{Compound}
 use Rattle.css_parser.specs.declared.pieces.ElementRead.{ElementRead}
 use Rattle.css_parser.specs.declared.pieces.LinkRead.{LinkRead}
 use Rattle.css_parser.specs.Places.{stands, skip}
-use Rattle.css_parser.specs.Simples.{element, simple, form_read}
+use Rattle.css_parser.specs.Choices.{simple, Forms}
+use Rattle.css_parser.specs.Simples.{element}
 
 -- from i up to j stand these simple selectors and pseudo-elements
 abbrev pub Simples : List ℕ → List CssToken → ℕ → List Form → ℕ → Type 0
-Simples text ts i [] j = i ≡ j
-Simples text ts i (x ∷ xs) j = (k : ℕ) × (simple text ts i ≡ Some (form_read x k)) × Simples text ts k xs j
+Simples text ts i xs j = Forms (simple text ts) i xs j
 
 -- what a compound says of its element, where it has one
 abbrev pub HasElement : Option ElementRead → Compound → Type 0

@@ -1,7 +1,7 @@
 -- What holds of all texts.
 use Rattle.std.specs.Prelude.{◌≡◌, ◌⊎◌, ℕ, List}
-use Rattle.css_meaning.specs.declared.selector.SelectorList.{SelectorList}
-use Rattle.css_meaning.specs.WellMade.{WellMade}
+use Rattle.css_selectors.specs.declared.selector.SelectorList.{SelectorList}
+use Rattle.css_selectors.specs.WellMade.{WellMade}
 use Rattle.text_base.specs.declared.reasons.SelectorFault.{SelectorFault}
 use Rattle.css_parser.specs.Selecting.{Accepts, IsFault}
 

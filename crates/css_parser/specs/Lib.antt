@@ -1,3 +1,4 @@
+pub mod Choices
 pub mod Grammar
 pub mod Laws
 pub mod Lists
@@ -8,3 +9,4 @@ pub mod Reading
 pub mod Refusals
 pub mod Selecting
 pub mod Simples
+pub mod Values

@@ -1,34 +1,36 @@
 -- The list of selectors that a list without a refusal is.
-use Rattle.std.specs.Prelude.{Bool, List, [], ◌∷◌, map, flat_map}
+use Rattle.std.specs.Prelude.{List, map, flat_map}
 use Rattle.std.specs.List.{fold}
-use Rattle.css_meaning.specs.declared.selector.Part.{Part}
-use Rattle.css_meaning.specs.declared.selector.Selector.{Selector}
-use Rattle.css_meaning.specs.declared.selector.SelectorList.{SelectorList}
-use Rattle.css_meaning.specs.declared.selector.Simple.{Simple}
-use Rattle.css_meaning.specs.declared.selector.Tail.{Tail}
-use Rattle.css_meaning.specs.declared.selector.Tail.TheVariants as tail
+use Rattle.css_selectors.specs.declared.selector.Part.{Part, roll-Part}
+use Rattle.css_selectors.specs.declared.selector.Selector.{Selector}
+use Rattle.css_selectors.specs.declared.selector.SelectorList.{SelectorList}
+use Rattle.css_selectors.specs.declared.selector.Tail.{Tail}
+use Rattle.css_selectors.specs.declared.selector.Tail.TheVariants as tail
 use Rattle.css_parser.specs.declared.pieces.Piece.{Piece}
 use Rattle.css_parser.specs.declared.pieces.Piece.TheVariants as piece
-use Rattle.css_parser.specs.declared.pieces.Form.{Form}
+use Rattle.css_parser.specs.declared.pieces.Form.{Form, out-Form}
+use Rattle.css_parser.specs.declared.pieces.Form.TheOpen as open_
+use Rattle.css_parser.specs.declared.pieces.Inner.{Inner}
 use Rattle.css_parser.specs.declared.pieces.Compound.{Compound}
-
-abbrev pub simples_by : Bool → Piece → List Simple
-simples_by negated (piece.Plain t) = (record { negated = negated; test = t }) ∷ []
-simples_by negated _ = []
-
-abbrev pub form_simples : Form → List Simple
-form_simples x = simples_by x.negated x.piece
+use Rattle.css_parser.specs.Values.{form_simples}
 
 abbrev pub part_of : Compound → Part
-part_of c = record { link = c.link; element = c.element; simples = flat_map form_simples c.forms }
+part_of c = roll-Part (record { link = c.link; element = c.element; simples = flat_map form_simples c.forms })
 
--- the tail after a piece, where `old` was the tail before it
-abbrev pub tail_by : Tail → Piece → Tail
-tail_by old (piece.Tail t) = t
-tail_by old _ = old
+-- the tail after a piece, or after a form, where `old` was the tail before it
+abbrev pub piece_tail : Tail → Piece → Tail
+piece_tail old (piece.Tail t) = t
+piece_tail old _ = old
+
+abbrev pub form_tail : Tail → open_.Form-F Form Inner → Tail
+form_tail old (open_.One p) = piece_tail old p
+form_tail old _ = old
+
+abbrev pub tail_by : Tail → Form → Tail
+tail_by old x = form_tail old (out-Form x)
 
 abbrev pub tail_after : Tail → Compound → Tail
-tail_after old c = fold (λ (t : Tail) (x : Form). tail_by t x.piece) old c.forms
+tail_after old c = fold tail_by old c.forms
 
 abbrev pub tail_of : List Compound → Tail
 tail_of cs = fold tail_after tail.Element cs

@@ -1,10 +1,10 @@
 -- The names of pseudo-classes, after Selectors Level 3, section 6.6, and `contains`.
 use Rattle.std.specs.Prelude.{ℕ, pos, if◌then◌else◌, List, Option, Some, None, codes}
-use Rattle.css_meaning.specs.declared.selector.Nth.{Nth}
-use Rattle.css_meaning.specs.declared.selector.Nth.TheVariants as nth
-use Rattle.css_meaning.specs.declared.selector.Pseudo.{Pseudo}
-use Rattle.css_meaning.specs.declared.selector.Pseudo.TheVariants as pseudo
-use Rattle.css_meaning.specs.declared.selector.Test.TheVariants as test
+use Rattle.css_selectors.specs.declared.selector.Nth.{Nth}
+use Rattle.css_selectors.specs.declared.selector.Nth.TheVariants as nth
+use Rattle.css_selectors.specs.declared.selector.Pseudo.{Pseudo}
+use Rattle.css_selectors.specs.declared.selector.Pseudo.TheVariants as pseudo
+use Rattle.css_parser.specs.declared.pieces.Plain.TheVariants as plain
 use Rattle.css_parser.specs.declared.pieces.Piece.{Piece}
 use Rattle.css_parser.specs.declared.pieces.Piece.TheVariants as piece
 use Rattle.css_parser.specs.Places.{is_called}
@@ -45,11 +45,11 @@ pseudo_called name =
     else state name)))
 
 abbrev pub pseudo_piece : Option Pseudo → Piece
-pseudo_piece (Some p) = piece.Plain (test.Pseudo p)
+pseudo_piece (Some p) = piece.Plain (plain.Pseudo p)
 pseudo_piece None = piece.Unknown
 
 abbrev pub position_piece : List ℕ → Option Nth → Piece
-position_piece name (Some kind) = piece.Plain (test.Nth kind (pos 0) (pos 1))
+position_piece name (Some kind) = piece.Plain (plain.Nth kind (pos 0) (pos 1))
 position_piece name None = pseudo_piece (pseudo_called name)
 
 -- the pseudo-class of a name without an argument

@@ -1,16 +1,21 @@
 -- For the contracts of private functions alone: readings that go as far as they can.
-use Rattle.std.specs.Prelude.{◌≡◌, ℕ, ◌<◌, ◌≤◌, ◌+◌, ◌-◌, ◌==◌, Bool, false, if◌then◌else◌, List, All, length, slice_range, count_by, ◌++◌, Option, Some, None, Result, Ok, Err}
-use Rattle.css_meaning.specs.declared.selector.Link.{Link}
+use Rattle.std.specs.Prelude.{◌≡◌, ℕ, ◌<◌, ◌≤◌, ◌+◌, ◌-◌, ◌==◌, Bool, false, if◌then◌else◌, List, All, length, get_or, slice_range, count_by, ◌++◌, Option, Some, None, Result, Ok, Err}
+use Rattle.css_selectors.specs.declared.selector.Link.{Link}
 use Rattle.css_lexer.specs.declared.tokens.CssToken.{CssToken}
 use Rattle.css_parser.specs.declared.pieces.Compound.{Compound}
 use Rattle.css_parser.specs.declared.pieces.Read.{Read}
 use Rattle.css_parser.specs.declared.pieces.FormRead.{FormRead}
 use Rattle.css_parser.specs.declared.pieces.ElementRead.{ElementRead}
+use Rattle.css_parser.specs.declared.pieces.Form.TheVariants as form
+use Rattle.css_parser.specs.declared.pieces.Word.{Word}
 use Rattle.css_parser.specs.declared.pieces.FormsRead.{FormsRead}
+use Rattle.css_parser.specs.declared.pieces.InnerRead.{InnerRead}
+use Rattle.css_parser.specs.declared.pieces.InnersRead.{InnersRead}
 use Rattle.css_parser.specs.declared.pieces.CompoundRead.{CompoundRead}
 use Rattle.css_parser.specs.declared.pieces.SelectorRead.{SelectorRead}
 use Rattle.css_parser.specs.declared.pieces.LinkRead.{LinkRead}
-use Rattle.css_parser.specs.Simples.{simple, is_opening, is_closing, is_more_closed}
+use Rattle.css_parser.specs.Choices.{Reader, Forms, simple, deep, form_read, word_at}
+use Rattle.css_parser.specs.Simples.{is_opening, is_closing, is_more_closed}
 use Rattle.css_lexer.specs.declared.tokens.CssKind.TheVariants as kind
 use Rattle.css_parser.specs.Places.{stands}
 use Rattle.text_base.specs.declared.reasons.SelectorFault.{SelectorFault}
@@ -67,10 +72,35 @@ abbrev pub EndsLink : List CssToken → ℕ → Option LinkRead → Type 0
 EndsLink ts i None = Unit {0}
 EndsLink ts i (Some r) = IsBehind ts i r.end
 
--- as many simple selectors as stand at i
-pub record IsFormsRead (text : List ℕ) (ts : List CssToken) (i : ℕ) (r : FormsRead) : Type 0 where
-  pub reads : Simples text ts i r.forms r.end
-  pub stops : simple text ts r.end ≡ None
+abbrev pub EndsInner : List CssToken → ℕ → Option InnerRead → Type 0
+EndsInner ts i None = Unit {0}
+EndsInner ts i (Some r) = IsBehind ts i r.end
+
+abbrev pub EndsInners : List CssToken → ℕ → Option InnersRead → Type 0
+EndsInners ts i None = Unit {0}
+EndsInners ts i (Some r) = IsBehind ts i r.end
+
+abbrev pub deep_end : Option ℕ → Option FormRead
+deep_end None = None
+deep_end (Some j) = Some (form_read form.Deep j)
+
+-- where the choice at i ends, if one is read there
+abbrev pub IsChoiceEnd : List ℕ → List CssToken → ℕ → Option ℕ → Type 0
+IsChoiceEnd text ts i end = (w : Word) → word_at ts i ≡ Some w → deep_end end ≡ deep text ts i
+
+-- where the choices end, from that of the last token to the first
+abbrev pub IsTable : List ℕ → List CssToken → List (Option ℕ) → Type 0
+IsTable text ts ends = (i : ℕ) → i < length ts → length ts ≤ i + length ends → IsChoiceEnd text ts i (get_or ends (length ts - 1 - i) None)
+
+-- a choice begins with two tokens
+abbrev pub Begins : List CssToken → ℕ → Option Word → Type 0
+Begins ts i None = Unit {0}
+Begins ts i (Some w) = i + 1 < length ts
+
+-- as many forms as stand at i
+pub record IsFormsRead (ts : List CssToken) (f : Reader) (i : ℕ) (r : FormsRead) : Type 0 where
+  pub reads : Forms f i r.forms r.end
+  pub stops : f r.end ≡ None
   pub order : i ≤ r.end
   pub within : r.end ≤ length ts
 

@@ -2,15 +2,18 @@
 use Rattle.std.specs.Prelude.{ℕ, ◌&&◌, ◌||◌, not, Bool, true, false, if◌then◌else◌, List, [], ◌∷◌, Option, Some, None}
 use Rattle.text_base.specs.declared.reasons.SelectorFault.{SelectorFault}
 use Rattle.text_base.specs.declared.reasons.SelectorFault.TheVariants as fault
-use Rattle.css_meaning.specs.declared.selector.Nth.{Nth}
-use Rattle.css_meaning.specs.declared.selector.Nth.TheVariants as nth
-use Rattle.css_meaning.specs.declared.selector.Pseudo.{Pseudo}
-use Rattle.css_meaning.specs.declared.selector.Pseudo.TheVariants as pseudo
-use Rattle.css_meaning.specs.declared.selector.Test.{Test}
-use Rattle.css_meaning.specs.declared.selector.Test.TheVariants as test
+use Rattle.css_selectors.specs.declared.selector.Nth.{Nth}
+use Rattle.css_selectors.specs.declared.selector.Nth.TheVariants as nth
+use Rattle.css_selectors.specs.declared.selector.Pseudo.{Pseudo}
+use Rattle.css_selectors.specs.declared.selector.Pseudo.TheVariants as pseudo
+use Rattle.css_parser.specs.declared.pieces.Plain.{Plain}
+use Rattle.css_parser.specs.declared.pieces.Plain.TheVariants as plain
 use Rattle.css_parser.specs.declared.pieces.Piece.{Piece}
 use Rattle.css_parser.specs.declared.pieces.Piece.TheVariants as piece
 use Rattle.css_parser.specs.declared.pieces.Form.{Form}
+use Rattle.css_parser.specs.declared.pieces.Form.TheOpen as open_
+use Rattle.css_parser.specs.declared.pieces.Form.TheFolds as folds
+use Rattle.css_parser.specs.declared.pieces.Inner.{Inner}
 use Rattle.css_parser.specs.declared.pieces.Compound.{Compound}
 
 abbrev pub is_none : Option (List ℕ) → Bool
@@ -28,9 +31,9 @@ abbrev pub is_only_of_type : Pseudo → Bool
 is_only_of_type pseudo.OnlyOfType = true
 is_only_of_type _ = false
 
-abbrev pub needs_element : Test → Bool
-needs_element (test.Nth kind a b) = is_of_type kind
-needs_element (test.Pseudo p) = is_only_of_type p
+abbrev pub needs_element : Plain → Bool
+needs_element (plain.Nth kind a b) = is_of_type kind
+needs_element (plain.Pseudo p) = is_only_of_type p
 needs_element _ = false
 
 abbrev pub if_refused : Bool → SelectorFault → Option SelectorFault
@@ -39,18 +42,15 @@ if_refused b f = if b then Some f else None
 abbrev pub large_refusal : Bool → Nth → SelectorFault
 large_refusal nameless position = if is_of_type position && nameless then fault.OfType else fault.Number
 
--- the refusal of a piece, in a compound without an element's name or with one, in a negation or not, and as the last of its
--- selector or not
-abbrev pub piece_refusal : Bool → Bool → Bool → Piece → Option SelectorFault
-piece_refusal nameless negated last (piece.Plain t) = if_refused (needs_element t && nameless) fault.OfType
-piece_refusal nameless negated last piece.Prefixed = Some fault.Prefix
-piece_refusal nameless negated last piece.Unknown = Some fault.UnknownPseudo
-piece_refusal nameless negated last (piece.Large position) = Some (large_refusal nameless position)
-piece_refusal nameless negated last (piece.Tail t) = if_refused (negated || not last) fault.PseudoElement
-piece_refusal nameless negated last piece.Strange = Some fault.PseudoElement
-
-abbrev pub form_refusal : Bool → Bool → Form → Option SelectorFault
-form_refusal nameless last x = piece_refusal nameless x.negated last x.piece
+-- the refusal of a piece, where no compound around it has an element's name or one has, and as the last of its selector or
+-- not
+abbrev pub piece_refusal : Bool → Bool → Piece → Option SelectorFault
+piece_refusal nameless last (piece.Plain t) = if_refused (needs_element t && nameless) fault.OfType
+piece_refusal nameless last piece.Prefixed = Some fault.Prefix
+piece_refusal nameless last piece.Unknown = Some fault.UnknownPseudo
+piece_refusal nameless last (piece.Large position) = Some (large_refusal nameless position)
+piece_refusal nameless last (piece.Tail t) = if_refused (not last) fault.PseudoElement
+piece_refusal nameless last piece.Strange = Some fault.PseudoElement
 
 -- the first, or else the other
 abbrev pub or_else : Option SelectorFault → Option SelectorFault → Option SelectorFault
@@ -60,6 +60,38 @@ or_else None other = other
 abbrev pub is_empty : {A : Type 0} → List A → Bool
 is_empty [] = true
 is_empty (x ∷ xs) = false
+
+-- the refusal of a form, by whether no compound around it has an element's name, and whether it is the last of its selector
+abbrev pub ByPlace : Type 0
+ByPlace = Bool → Bool → Option SelectorFault
+
+-- the refusals of forms, from left to right
+abbrev pub by_forms : Bool → Bool → List ByPlace → Option SelectorFault
+by_forms nameless last [] = None
+by_forms nameless last (x ∷ xs) = or_else (x nameless (last && is_empty xs)) (by_forms nameless last xs)
+
+abbrev pub by_inners : Bool → List (Bool → Option SelectorFault) → Option SelectorFault
+by_inners nameless [] = None
+by_inners nameless (x ∷ xs) = or_else (x nameless) (by_inners nameless xs)
+
+-- what stands in a choice is not the last of its selector
+abbrev pub inner_layer : open_.Inner-F ByPlace (Bool → Option SelectorFault) → Bool → Option SelectorFault
+inner_layer x nameless = or_else (if_refused x.prefixed fault.Prefix) (by_forms (nameless && is_none x.element) false x.forms)
+
+abbrev pub form_layer : open_.Form-F ByPlace (Bool → Option SelectorFault) → ByPlace
+form_layer (open_.One p) nameless last = piece_refusal nameless last p
+form_layer (open_.Choice w xs) nameless last = by_inners nameless xs
+form_layer open_.Deep nameless last = Some fault.Nested
+
+unfoldable pub form_refusal : Bool → Bool → Form → Option SelectorFault
+form_refusal nameless last x = folds.fold-Form ByPlace (Bool → Option SelectorFault) form_layer inner_layer x nameless last
+
+unfoldable pub inner_refusal : Bool → Inner → Option SelectorFault
+inner_refusal nameless x = folds.fold-Inner ByPlace (Bool → Option SelectorFault) form_layer inner_layer x nameless
+
+abbrev pub inners_refusal : Bool → List Inner → Option SelectorFault
+inners_refusal nameless [] = None
+inners_refusal nameless (x ∷ xs) = or_else (inner_refusal nameless x) (inners_refusal nameless xs)
 
 abbrev pub forms_refusal : Bool → Bool → List Form → Option SelectorFault
 forms_refusal nameless last [] = None

@@ -1,6 +1,6 @@
 -- Which texts are lists of selectors, and why a text is none.
 use Rattle.std.specs.Prelude.{◌≡◌, ℕ, ◌<◌, length, List, Some, None}
-use Rattle.css_meaning.specs.declared.selector.SelectorList.{SelectorList}
+use Rattle.css_selectors.specs.declared.selector.SelectorList.{SelectorList}
 use Rattle.css_lexer.specs.declared.tokens.CssToken.{CssToken}
 use Rattle.css_lexer.specs.Tokens.{Lexes, Stops, most_bytes}
 use Rattle.text_base.specs.declared.reasons.SelectorFault.{SelectorFault}

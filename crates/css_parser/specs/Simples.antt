@@ -2,11 +2,11 @@
 -- it. After the grammar of Selectors Level 3, section 10.1.
 use Rattle.std.specs.Prelude.{ℕ, ◌+◌, ◌-◌, ◌==◌, ◌&&◌, not, nat_le, nat_lt, Bool, true, false, if◌then◌else◌, List, [], ◌∷◌, drop, length, slice_range, count_by, flat_map, Option, Some, None, ℤ, pos, neg_ℤ, codes}
 use Rattle.std.specs.List.{prefix_len, range_with_len}
-use Rattle.css_meaning.specs.declared.selector.Nth.{Nth}
-use Rattle.css_meaning.specs.declared.selector.Op.{Op}
-use Rattle.css_meaning.specs.declared.selector.Op.TheVariants as op
-use Rattle.css_meaning.specs.declared.selector.Tail.TheVariants as tail
-use Rattle.css_meaning.specs.declared.selector.Test.TheVariants as test
+use Rattle.css_selectors.specs.declared.selector.Nth.{Nth}
+use Rattle.css_selectors.specs.declared.selector.Op.{Op}
+use Rattle.css_selectors.specs.declared.selector.Op.TheVariants as op
+use Rattle.css_selectors.specs.declared.selector.Tail.TheVariants as tail
+use Rattle.css_parser.specs.declared.pieces.Plain.TheVariants as plain
 use Rattle.css_lexer.specs.declared.tokens.CssKind.TheVariants as kind
 use Rattle.css_lexer.specs.declared.tokens.CssToken.{CssToken}
 use Rattle.css_parser.specs.declared.nth.Number.{Number}
@@ -14,8 +14,8 @@ use Rattle.css_parser.specs.declared.nth.Line.{Line}
 use Rattle.css_parser.specs.declared.pieces.Piece.{Piece}
 use Rattle.css_parser.specs.declared.pieces.Piece.TheVariants as piece
 use Rattle.css_parser.specs.declared.pieces.Read.{Read}
-use Rattle.css_parser.specs.declared.pieces.Form.{Form}
-use Rattle.css_parser.specs.declared.pieces.FormRead.{FormRead}
+use Rattle.css_parser.specs.declared.pieces.Word.{Word}
+use Rattle.css_parser.specs.declared.pieces.Word.TheVariants as word
 use Rattle.css_parser.specs.declared.pieces.ElementRead.{ElementRead}
 use Rattle.css_parser.specs.Places.{code, stands, value_at, text_at, skip, is_name, is_word, is_called, is_space}
 use Rattle.css_parser.specs.Names.{class_called, nth_called}
@@ -53,7 +53,7 @@ op_at ts i =
     else None)))))
 
 abbrev pub attribute_piece : Bool → List ℕ → Op → List ℕ → Piece
-attribute_piece prefixed name o value = if prefixed then piece.Prefixed else piece.Plain (test.Attr name o value)
+attribute_piece prefixed name o value = if prefixed then piece.Prefixed else piece.Plain (plain.Attr name o value)
 
 -- behind an operator: S, an Ident or a String, S and `]`
 abbrev pub compared : List CssToken → Bool → List ℕ → Option Op → ℕ → Option Read
@@ -95,7 +95,7 @@ abbrev pub signed : Number → ℤ
 signed n = if n.minus then neg_ℤ (pos n.size) else pos n.size
 
 abbrev pub nth_piece : Nth → Line → Piece
-nth_piece position l = if is_small l.a && is_small l.b then piece.Plain (test.Nth position (signed l.a) (signed l.b)) else piece.Large position
+nth_piece position l = if is_small l.a && is_small l.b then piece.Plain (plain.Nth position (signed l.a) (signed l.b)) else piece.Large position
 
 abbrev pub nth_read : Nth → Option Line → ℕ → Option Read
 nth_read position None j = None
@@ -113,10 +113,10 @@ closed ts piece i = let j = skip ts (i + 1) in if stands kind.CloseRound ts j th
 
 -- S, an Ident or a String, S and `)`
 abbrev pub contains_argument : List CssToken → ℕ → Option Read
-contains_argument ts i = let j = skip ts i in if is_word ts j then closed ts (piece.Plain (test.Contains (value_at ts j))) j else None
+contains_argument ts i = let j = skip ts i in if is_word ts j then closed ts (piece.Plain (plain.Contains (value_at ts j))) j else None
 
 abbrev pub lang_argument : List CssToken → ℕ → Option Read
-lang_argument ts i = let j = skip ts i in if is_word ts j then closed ts (piece.Plain (test.Lang (value_at ts j))) j else None
+lang_argument ts i = let j = skip ts i in if is_word ts j then closed ts (piece.Plain (plain.Lang (value_at ts j))) j else None
 
 -- S, an Ident, S and `)`
 abbrev pub attr_argument : List CssToken → ℕ → Option Read
@@ -140,19 +140,32 @@ balanced_close ts i = i + prefix_len (λ k. not (is_more_closed ts i k)) (range_
 unfoldable pub other_argument : List CssToken → Piece → ℕ → Option Read
 other_argument ts piece i = let j = balanced_close ts i in if stands kind.CloseRound ts j then Some (read piece (j + 1)) else None
 
-abbrev pub is_negation : List ℕ → Bool
-is_negation name = is_called name (codes "not")
+-- the word of a choice, by the name of its Function
+unfoldable pub word_called : List ℕ → Option Word
+word_called name =
+    if is_called name (codes "is") then Some word.Is
+    else (if is_called name (codes "where") then Some word.Where
+    else (if is_called name (codes "not") then Some word.Not
+    else None))
+
+abbrev pub is_some : {A : Type 0} → Option A → Bool
+is_some None = false
+is_some (Some x) = true
+
+-- a Function of this name is read by the choice alone
+abbrev pub is_choice : List ℕ → Bool
+is_choice name = is_some (word_called name)
 
 abbrev pub class_with : List ℕ → List CssToken → List ℕ → Option Nth → ℕ → Option Read
 class_with text ts name (Some position) i = nth_argument text ts position i
 class_with text ts name None i =
     if is_called name (codes "contains") then contains_argument ts i
     else (if is_called name (codes "lang") then lang_argument ts i
-    else (if is_negation name then None
+    else (if is_choice name then None
     else other_argument ts piece.Unknown i))
 
--- pseudo-class: `:` and an Ident, or `:`, a Function, its argument and `)`. A Function named `not` is read by the negation
--- alone.
+-- pseudo-class: `:` and an Ident, or `:`, a Function, its argument and `)`. A Function with the name of a
+-- choice is read by the choice alone.
 unfoldable pub pseudo_class : List ℕ → List CssToken → ℕ → Option Read
 pseudo_class text ts i =
     if stands kind.Ident ts (i + 1) then Some (read (class_called (text_at ts (i + 1))) (i + 2))
@@ -167,7 +180,7 @@ abbrev pub element_with : List ℕ → List CssToken → List ℕ → Option Nth
 element_with text ts name (Some position) i = strange (nth_argument text ts position i)
 element_with text ts name None i =
     if is_called name (codes "attr") then attr_argument ts i
-    else (if is_negation name then None
+    else (if is_choice name then None
     else other_argument ts piece.Strange i)
 
 abbrev pub element_called : List ℕ → Piece
@@ -182,13 +195,13 @@ pseudo_element text ts i =
 
 -- Hash
 abbrev pub id : List CssToken → ℕ → Option Read
-id ts i = Some (read (piece.Plain (test.Id (value_at ts i))) (i + 1))
+id ts i = Some (read (piece.Plain (plain.Id (value_at ts i))) (i + 1))
 
 -- class: `.` and an Ident
 abbrev pub class : List CssToken → ℕ → Option Read
-class ts i = if stands kind.Ident ts (i + 1) then Some (read (piece.Plain (test.Class (value_at ts (i + 1)))) (i + 2)) else None
+class ts i = if stands kind.Ident ts (i + 1) then Some (read (piece.Plain (plain.Class (value_at ts (i + 1)))) (i + 2)) else None
 
--- a simple selector that is no negation, or a pseudo-element
+-- a simple selector that is no choice, or a pseudo-element
 unfoldable pub piece_at : List ℕ → List CssToken → ℕ → Option Read
 piece_at text ts i =
     if stands kind.Hash ts i then id ts i
@@ -197,41 +210,3 @@ piece_at text ts i =
     else (if stands kind.Colon ts i then pseudo_class text ts i
     else (if stands kind.DoubleColon ts i then pseudo_element text ts i
     else None))))
-
-abbrev pub element_piece : ElementRead → Read
-element_piece e = read (if e.prefixed then piece.Prefixed else piece.Plain (test.Element e.name)) e.end
-
-abbrev pub inner_by : Option ElementRead → Option Read → Option Read
-inner_by (Some e) other = Some (element_piece e)
-inner_by None other = other
-
--- inner: an element, a simple selector that is no negation, or a pseudo-element
-unfoldable pub inner : List ℕ → List CssToken → ℕ → Option Read
-inner text ts i = inner_by (element ts i) (piece_at text ts i)
-
-abbrev pub form : Bool → Piece → Form
-form negated piece = record { negated = negated; piece = piece }
-
-abbrev pub form_read : Form → ℕ → FormRead
-form_read x j = record { form = x; end = j }
-
-abbrev pub negated : List CssToken → Option Read → Option FormRead
-negated ts None = None
-negated ts (Some r) =
-    let j = skip ts r.end in
-    if stands kind.CloseRound ts j then Some (form_read (form true r.piece) (j + 1)) else None
-
--- negation: `:` and a Function named `not`, S, inner, S and `)`
-unfoldable pub negation : List ℕ → List CssToken → ℕ → Option FormRead
-negation text ts i = negated ts (inner text ts (skip ts (i + 2)))
-
-abbrev pub not_negated : Option Read → Option FormRead
-not_negated None = None
-not_negated (Some r) = Some (form_read (form false r.piece) r.end)
-
-abbrev pub begins_negation : List CssToken → ℕ → Bool
-begins_negation ts i = stands kind.Colon ts i && stands kind.Function ts (i + 1) && is_negation (text_at ts (i + 1))
-
--- a simple selector or a pseudo-element
-unfoldable pub simple : List ℕ → List CssToken → ℕ → Option FormRead
-simple text ts i = if begins_negation ts i then negation text ts i else not_negated (piece_at text ts i)

@@ -4,10 +4,10 @@ ghost use Rattle.css_parser.specs.Simples as spec;
 ghost use Rattle.css_parser.specs.Reading.{AreInside, Ends, depth_behind};
 
 use crate::nth::{Line, Number, nth};
-use crate::pieces::{Piece, Read};
+use crate::pieces::{Piece, Plain, Read};
 use crate::places::{is_word, skip, stands, value_at};
 use css_lexer::{CssKind, CssToken};
-use css_meaning::{Nth, Tail, Test};
+use css_selectors::{Nth, Tail};
 use std::alloc::{AllocError, Global};
 use text_base::NoMemory;
 
@@ -82,7 +82,7 @@ fn nth_piece(position: Nth, line: Line) -> Piece
     ensures { result ≡ spec.nth_piece position line }
 {
     if is_small(line.a) && is_small(line.b) {
-        Piece::Plain(Test::Nth(position, signed(line.a), signed(line.b)))
+        Piece::Plain(Plain::Nth(position, signed(line.a), signed(line.b)))
     } else {
         Piece::Large(position)
     }
@@ -146,7 +146,7 @@ pub(crate) fn contains_argument(
     let word = skip(tokens, at);
     if is_word(tokens, word) {
         let value = value_at(alloc, tokens, word)?;
-        Ok(closed(tokens, Piece::Plain(Test::Contains(value)), word))
+        Ok(closed(tokens, Piece::Plain(Plain::Contains(value)), word))
     } else {
         Ok(None)
     }
@@ -165,7 +165,7 @@ pub(crate) fn lang_argument(
     let word = skip(tokens, at);
     if is_word(tokens, word) {
         let value = value_at(alloc, tokens, word)?;
-        Ok(closed(tokens, Piece::Plain(Test::Lang(value)), word))
+        Ok(closed(tokens, Piece::Plain(Plain::Lang(value)), word))
     } else {
         Ok(None)
     }

@@ -4,10 +4,10 @@ ghost use Rattle.css_parser.specs.Simples as spec;
 ghost use Rattle.css_parser.specs.Places.{value_at};
 ghost use Rattle.css_parser.specs.Reading.{Ends, EndsElement};
 
-use crate::pieces::{ElementRead, Piece, Read};
+use crate::pieces::{ElementRead, Piece, Plain, Read};
 use crate::places::{is_name, is_word, no_text, skip, stands, value_at};
 use css_lexer::{CssKind, CssToken};
-use css_meaning::{Op, Test};
+use css_selectors::Op;
 use std::alloc::Global;
 use text_base::{NoMemory, Txt};
 
@@ -90,7 +90,7 @@ fn attribute_piece(prefixed: bool, name: Txt, op: Op, value: Txt) -> Piece
     if prefixed {
         Piece::Prefixed
     } else {
-        Piece::Plain(Test::Attr(name, op, value))
+        Piece::Plain(Plain::Attr(name, op, value))
     }
 }
 

@@ -2,41 +2,17 @@
 ghost use Rattle.std.specs.Prelude.{◌≡◌, ◌++◌, ◌∷◌, [], ◌<◌, ◌≤◌, length, IfOk, Some, None};
 ghost use Rattle.css_parser.specs.Grammar as spec;
 ghost use Rattle.css_parser.specs.Simples.{element as element_at};
-ghost use Rattle.css_parser.specs.Reading.{AreInside, EndsLink, IsFormsRead, IsCompoundRead, IsFurtherRead, IsSelectorRead, IsListRead};
+ghost use Rattle.css_parser.specs.Reading.{AreInside, EndsLink, IsTable, IsCompoundRead, IsFurtherRead, IsSelectorRead, IsListRead};
 
 use crate::attributes::element;
+use crate::choices::{choice_ends, forms};
 use crate::pieces::{Compound, CompoundRead, ElementRead, FormsRead, LinkRead, SelectorRead};
 use crate::places::{skip, stands};
-use crate::simples::simple;
+
 use css_lexer::{CssKind, CssToken};
-use css_meaning::Link;
+use css_selectors::Link;
 use std::alloc::Global;
 use text_base::{NoMemory, SelectorFault, Seq};
-
-/// The simple selectors and pseudo-elements from a place on, as many as there are.
-#[tactic(auto, using(crate::proofs::GrammarLemmas::simples_push))]
-fn simples(
-    alloc: Global,
-    text: &str,
-    tokens: &[CssToken],
-    from: usize,
-) -> Result<FormsRead, NoMemory>
-    requires inside { AreInside text.now tokens.now }
-    requires within { from ≤ length tokens.now }
-    ensures { IfOk result (IsFormsRead text.now tokens.now from) }
-{
-    let mut forms = Seq::new(alloc);
-    let mut at = from;
-    loop {
-        match simple(alloc, text, tokens, at)? {
-            Some(read) => {
-                forms.push(read.form)?;
-                at = read.end;
-            }
-            None => return Ok(FormsRead { forms, end: at }),
-        }
-    }
-}
 
 /// A compound of its element and what stands behind it.
 #[tactic(auto, using(crate::proofs::GrammarLemmas::with_element))]
@@ -44,11 +20,14 @@ fn behind_element(
     alloc: Global,
     text: &str,
     tokens: &[CssToken],
+    ends: &[Option<usize>],
     link: Link,
     at: usize,
     element: ElementRead,
 ) -> Result<CompoundRead, NoMemory>
     requires inside { AreInside text.now tokens.now }
+    requires table { IsTable text.now tokens.now ends.now }
+    requires whole { length tokens.now ≤ length ends.now }
     requires order { at < element.end }
     requires within { element.end ≤ length tokens.now }
     requires stands { element_at tokens.now at ≡ Some element }
@@ -59,7 +38,7 @@ fn behind_element(
         prefixed,
         end,
     } = element;
-    let read = simples(alloc, text, tokens, end)?;
+    let read = forms(alloc, text, tokens, ends, 8, end)?;
     Ok(CompoundRead {
         compound: Compound {
             link,
@@ -77,15 +56,18 @@ fn without_element(
     alloc: Global,
     text: &str,
     tokens: &[CssToken],
+    ends: &[Option<usize>],
     link: Link,
     at: usize,
 ) -> Result<Option<CompoundRead>, NoMemory>
     requires inside { AreInside text.now tokens.now }
+    requires table { IsTable text.now tokens.now ends.now }
+    requires whole { length tokens.now ≤ length ends.now }
     requires within { at ≤ length tokens.now }
     requires stands { element_at tokens.now at ≡ None }
     ensures { IfOk result (IsCompoundRead text.now tokens.now link at) }
 {
-    let read = simples(alloc, text, tokens, at)?;
+    let read = forms(alloc, text, tokens, ends, 8, at)?;
     if read.forms.is_empty() {
         return Ok(None);
     }
@@ -105,19 +87,22 @@ fn compound(
     alloc: Global,
     text: &str,
     tokens: &[CssToken],
+    ends: &[Option<usize>],
     link: Link,
     at: usize,
 ) -> Result<Option<CompoundRead>, NoMemory>
     requires inside { AreInside text.now tokens.now }
+    requires table { IsTable text.now tokens.now ends.now }
+    requires whole { length tokens.now ≤ length ends.now }
     requires within { at ≤ length tokens.now }
     ensures { IfOk result (IsCompoundRead text.now tokens.now link at) }
 {
     match element(alloc, tokens, at)? {
         Some(element) => {
-            let read = behind_element(alloc, text, tokens, link, at, element)?;
+            let read = behind_element(alloc, text, tokens, ends, link, at, element)?;
             Ok(Some(read))
         }
-        None => without_element(alloc, text, tokens, link, at),
+        None => without_element(alloc, text, tokens, ends, link, at),
     }
 }
 
@@ -161,14 +146,17 @@ fn further(
     alloc: Global,
     text: &str,
     tokens: &[CssToken],
+    ends: &[Option<usize>],
     at: usize,
 ) -> Result<Option<CompoundRead>, NoMemory>
     requires inside { AreInside text.now tokens.now }
+    requires table { IsTable text.now tokens.now ends.now }
+    requires whole { length tokens.now ≤ length ends.now }
     requires within { at ≤ length tokens.now }
     ensures { IfOk result (IsFurtherRead text.now tokens.now at) }
 {
     match combinator(tokens, at) {
-        Some(read) => compound(alloc, text, tokens, read.link, read.end),
+        Some(read) => compound(alloc, text, tokens, ends, read.link, read.end),
         None => Ok(None),
     }
 }
@@ -179,20 +167,23 @@ fn selector(
     alloc: Global,
     text: &str,
     tokens: &[CssToken],
+    ends: &[Option<usize>],
     from: usize,
 ) -> Result<Option<SelectorRead>, NoMemory>
     requires inside { AreInside text.now tokens.now }
+    requires table { IsTable text.now tokens.now ends.now }
+    requires whole { length tokens.now ≤ length ends.now }
     requires within { from ≤ length tokens.now }
     ensures { IfOk result (IsSelectorRead text.now tokens.now from) }
 {
-    let Some(first) = compound(alloc, text, tokens, Link::First, from)? else {
+    let Some(first) = compound(alloc, text, tokens, ends, Link::First, from)? else {
         return Ok(None);
     };
     let mut compounds = Seq::new(alloc);
     compounds.push(first.compound)?;
     let mut at = first.end;
     loop {
-        match further(alloc, text, tokens, at)? {
+        match further(alloc, text, tokens, ends, at)? {
             Some(read) => {
                 compounds.push(read.compound)?;
                 at = read.end;
@@ -214,10 +205,14 @@ pub(crate) fn list(
     requires { AreInside text.now tokens.now }
     ensures { IsListRead text.now tokens.now result }
 {
+    let ends = match choice_ends(alloc, text, tokens) {
+        Ok(ends) => ends,
+        Err(_) => return Err(SelectorFault::Memory),
+    };
     let mut found = Seq::new(alloc);
     let mut at = skip(tokens, 0);
     loop {
-        let read = match selector(alloc, text, tokens, at) {
+        let read = match selector(alloc, text, tokens, ends.as_slice(), at) {
             Ok(Some(read)) => read,
             Ok(None) => return Err(SelectorFault::Syntax),
             Err(_) => return Err(SelectorFault::Memory),

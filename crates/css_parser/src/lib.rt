@@ -4,6 +4,7 @@
 
 mod arguments;
 mod attributes;
+mod choices;
 mod grammar;
 mod laws;
 mod lists;
@@ -16,6 +17,7 @@ mod refusals;
 mod simples;
 #[cfg(test)]
 mod tests;
+mod values;
 
 pub use laws::one_list_or_fault;
 pub use parsing::parse_selectors;

@@ -1,43 +1,12 @@
 //! The list of selectors that a list without a refusal is.
-ghost use Rattle.std.specs.Prelude.{◌≡◌, ◌++◌, map, flat_map, IfOk, OnOk};
+ghost use Rattle.std.specs.Prelude.{◌≡◌, map, IfOk};
 ghost use Rattle.css_parser.specs.Lists as spec;
 
 use crate::pieces::{Compound, Form, Piece};
-use css_meaning::{Part, Selector, SelectorList, Simple, Tail, Test};
+use crate::values::{name_copy, simples_of};
+use css_selectors::{Part, Selector, SelectorList, Tail};
 use std::alloc::Global;
 use text_base::{NoMemory, Seq, Txt};
-
-fn name_copy(alloc: Global, name: &Option<Txt>) -> Result<Option<Txt>, NoMemory>
-    ensures { IfOk result (λ copy. copy ≡ name.now) }
-{
-    match name {
-        Some(name) => {
-            let copy = Txt::of(alloc, name.as_str())?;
-            Ok(Some(copy))
-        }
-        None => Ok(None),
-    }
-}
-
-fn test_copy(alloc: Global, test: &Test) -> Result<Test, NoMemory>
-    ensures { IfOk result (λ copy. copy ≡ test.now) }
-{
-    let copy = match test {
-        Test::Element(name) => Test::Element(name_copy(alloc, name)?),
-        Test::Id(name) => Test::Id(Txt::of(alloc, name.as_str())?),
-        Test::Class(name) => Test::Class(Txt::of(alloc, name.as_str())?),
-        Test::Attr(name, op, value) => {
-            let name = Txt::of(alloc, name.as_str())?;
-            let value = Txt::of(alloc, value.as_str())?;
-            Test::Attr(name, *op, value)
-        }
-        Test::Nth(position, a, b) => Test::Nth(*position, *a, *b),
-        Test::Pseudo(pseudo) => Test::Pseudo(*pseudo),
-        Test::Contains(text) => Test::Contains(Txt::of(alloc, text.as_str())?),
-        Test::Lang(language) => Test::Lang(Txt::of(alloc, language.as_str())?),
-    };
-    Ok(copy)
-}
 
 fn tail_copy(alloc: Global, tail: &Tail) -> Result<Tail, NoMemory>
     ensures { IfOk result (λ copy. copy ≡ tail.now) }
@@ -50,37 +19,6 @@ fn tail_copy(alloc: Global, tail: &Tail) -> Result<Tail, NoMemory>
             Ok(Tail::Attr(copy))
         }
     }
-}
-
-/// Adds the simple selector that a form is, if it is one.
-#[tactic(auto, using(crate::proofs::CopyLemmas::nothing_more))]
-fn push_simple(alloc: Global, form: &Form, simples: &mut Seq<Simple>) -> Result<(), NoMemory>
-    ensures { OnOk result (simples.new ≡ simples.old ++ spec.form_simples form.now) }
-{
-    match &form.piece {
-        Piece::Plain(test) => {
-            let test = test_copy(alloc, test)?;
-            simples.push(Simple {
-                negated: form.negated,
-                test,
-            })?;
-            Ok(())
-        }
-        _ => Ok(()),
-    }
-}
-
-#[tactic(auto, using(crate::proofs::CopyLemmas::simples_more, crate::proofs::CopyLemmas::all_taken))]
-fn simples_of(alloc: Global, forms: &[Form]) -> Result<Seq<Simple>, NoMemory>
-    ensures { IfOk result (λ simples. simples ≡ flat_map spec.form_simples forms.now) }
-{
-    let mut simples = Seq::new(alloc);
-    let mut at = 0;
-    while at < forms.len() {
-        push_simple(alloc, &forms[at], &mut simples)?;
-        at += 1;
-    }
-    Ok(simples)
 }
 
 fn part_of(alloc: Global, compound: &Compound) -> Result<Part, NoMemory>
@@ -110,12 +48,23 @@ fn parts_of(alloc: Global, compounds: &[Compound]) -> Result<Seq<Part>, NoMemory
 }
 
 /// The tail after a piece, where `old` was the tail before it.
-fn tail_by(alloc: Global, old: Tail, piece: &Piece) -> Result<Tail, NoMemory>
-    ensures { IfOk result (λ tail. tail ≡ spec.tail_by old piece.now) }
+fn piece_tail(alloc: Global, old: Tail, piece: &Piece) -> Result<Tail, NoMemory>
+    ensures { IfOk result (λ tail. tail ≡ spec.piece_tail old piece.now) }
 {
     match piece {
         Piece::Tail(tail) => tail_copy(alloc, tail),
         _ => Ok(old),
+    }
+}
+
+#[tactic(auto, using(crate::proofs::CopyLemmas::one_tail, crate::proofs::CopyLemmas::choice_tail, crate::proofs::CopyLemmas::deep_tail))]
+fn tail_by(alloc: Global, old: Tail, form: &Form) -> Result<Tail, NoMemory>
+    ensures { IfOk result (λ tail. tail ≡ spec.tail_by old form.now) }
+{
+    match form {
+        Form::One(piece) => piece_tail(alloc, old, piece),
+        Form::Choice(..) => Ok(old),
+        Form::Deep => Ok(old),
     }
 }
 
@@ -127,7 +76,7 @@ fn tail_after(alloc: Global, old: Tail, compound: &Compound) -> Result<Tail, NoM
     let mut tail = old;
     let mut at = 0;
     while at < forms.len() {
-        tail = tail_by(alloc, tail, &forms[at].piece)?;
+        tail = tail_by(alloc, tail, &forms[at])?;
         at += 1;
     }
     Ok(tail)

@@ -2,8 +2,8 @@
 ghost use Rattle.std.specs.Prelude.{◌≡◌};
 ghost use Rattle.css_parser.specs.Names as spec;
 
-use crate::pieces::Piece;
-use css_meaning::{Nth, Pseudo, Test};
+use crate::pieces::{Piece, Plain};
+use css_selectors::{Nth, Pseudo};
 
 /// Which position of 1 the class is, if it is one.
 fn first_or_last(name: &str) -> Option<Nth>
@@ -79,9 +79,9 @@ pub(crate) fn class_called(name: &str) -> Piece
     ensures { result ≡ spec.class_called name.now }
 {
     match first_or_last(name) {
-        Some(kind) => Piece::Plain(Test::Nth(kind, 0, 1)),
+        Some(kind) => Piece::Plain(Plain::Nth(kind, 0, 1)),
         None => match pseudo_called(name) {
-            Some(pseudo) => Piece::Plain(Test::Pseudo(pseudo)),
+            Some(pseudo) => Piece::Plain(Plain::Pseudo(pseudo)),
             None => Piece::Unknown,
         },
     }

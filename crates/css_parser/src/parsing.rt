@@ -1,12 +1,12 @@
 ghost use Rattle.std.specs.Prelude.{◌≡◌, IfOk, IfErr};
-ghost use Rattle.css_meaning.specs.WellMade.{WellMade};
+ghost use Rattle.css_selectors.specs.WellMade.{WellMade};
 ghost use Rattle.css_parser.specs.Selecting.{Accepts, IsUnlisted};
 
 use crate::grammar::list;
 use crate::lists::list_of;
 use crate::refusals::refusal;
 use css_lexer::css_tokens;
-use css_meaning::SelectorList;
+use css_selectors::SelectorList;
 use std::alloc::Global;
 use text_base::SelectorFault;
 

@@ -1,10 +1,25 @@
-use css_meaning::{Link, Nth, Tail, Test};
+use css_selectors::{Link, Nth, Op, Pseudo, Tail};
 use text_base::{Seq, Txt};
+
+/// What a simple selector asks that is no choice. An element is none of these: it stands in a
+/// compound by itself.
+#[derive(Drop)]
+pub(crate) enum Plain {
+    Id(Txt),
+    Class(Txt),
+    /// The attribute's name, and what its value is compared with: an empty text for `Exists`.
+    Attr(Txt, Op, Txt),
+    /// The a and b of `an+b`.
+    Nth(Nth, i64, i64),
+    Pseudo(Pseudo),
+    Contains(Txt),
+    Lang(Txt),
+}
 
 /// What a simple selector or a pseudo-element is, before it is looked at whether it may stand there.
 #[derive(Drop)]
 pub(crate) enum Piece {
-    Plain(Test),
+    Plain(Plain),
     /// An element or an attribute with a prefix.
     Prefixed,
     /// A pseudo-class that is not known.
@@ -24,11 +39,48 @@ pub(crate) struct Read {
     pub(crate) end: usize,
 }
 
-/// A piece, or its negation.
+/// The words of choices.
+#[derive(Clone, Copy)]
+pub(crate) enum Word {
+    Is,
+    Where,
+    Not,
+}
+
+/// A simple selector or a pseudo-element, with what stands in it.
+#[cycle(forms)]
 #[derive(Drop)]
-pub(crate) struct Form {
-    pub(crate) negated: bool,
-    pub(crate) piece: Piece,
+pub(crate) enum Form {
+    /// A piece that is no choice.
+    One(Piece),
+    /// A choice, and what stands in it.
+    Choice(Word, Seq<Inner>),
+    /// A choice inside eight others. What stands in it is not kept.
+    Deep,
+}
+
+/// A compound of a choice.
+#[cycle(forms)]
+#[derive(Drop)]
+pub(crate) struct Inner {
+    /// Whether an element stands in it.
+    pub(crate) named: bool,
+    /// The name of the element, or None for `*` or no element at all.
+    pub(crate) element: Option<Txt>,
+    pub(crate) prefixed: bool,
+    pub(crate) forms: Seq<Form>,
+}
+
+#[derive(Drop)]
+pub(crate) struct InnerRead {
+    pub(crate) inner: Inner,
+    pub(crate) end: usize,
+}
+
+#[derive(Drop)]
+pub(crate) struct InnersRead {
+    pub(crate) inners: Seq<Inner>,
+    pub(crate) end: usize,
 }
 
 #[derive(Drop)]

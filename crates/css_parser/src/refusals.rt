@@ -2,8 +2,8 @@
 ghost use Rattle.std.specs.Prelude.{◌≡◌, ◌&&◌};
 ghost use Rattle.css_parser.specs.Refusals as spec;
 
-use crate::pieces::{Compound, Form, Piece};
-use css_meaning::{Nth, Pseudo, Test};
+use crate::pieces::{Compound, Form, Inner, Piece, Plain};
+use css_selectors::{Nth, Pseudo};
 use text_base::{SelectorFault, Seq, Txt};
 
 /// Whether the position is counted among the elements of one name.
@@ -26,12 +26,12 @@ fn is_only_of_type(pseudo: Pseudo) -> bool
 }
 
 /// Whether the test needs the name of the compound's element.
-fn needs_element(test: &Test) -> bool
-    ensures { result ≡ spec.needs_element test.now }
+fn needs_element(plain: &Plain) -> bool
+    ensures { result ≡ spec.needs_element plain.now }
 {
-    match test {
-        Test::Nth(position, _, _) => is_of_type(*position),
-        Test::Pseudo(pseudo) => is_only_of_type(*pseudo),
+    match plain {
+        Plain::Nth(position, _, _) => is_of_type(*position),
+        Plain::Pseudo(pseudo) => is_only_of_type(*pseudo),
         _ => false,
     }
 }
@@ -55,26 +55,43 @@ fn large_refusal(nameless: bool, position: Nth) -> SelectorFault
 
 /// The refusal of a piece, in a compound without an element's name or with one, in a negation or
 /// not, and as the last of its selector or not.
-fn piece_refusal(nameless: bool, negated: bool, last: bool, piece: &Piece) -> Option<SelectorFault>
-    ensures { result ≡ spec.piece_refusal nameless negated last piece.now }
+fn piece_refusal(nameless: bool, last: bool, piece: &Piece) -> Option<SelectorFault>
+    ensures { result ≡ spec.piece_refusal nameless last piece.now }
 {
     match piece {
-        Piece::Plain(test) => if_refused(needs_element(test) && nameless, SelectorFault::OfType),
+        Piece::Plain(plain) => if_refused(needs_element(plain) && nameless, SelectorFault::OfType),
         Piece::Prefixed => Some(SelectorFault::Prefix),
         Piece::Unknown => Some(SelectorFault::UnknownPseudo),
         Piece::Large(position) => Some(large_refusal(nameless, *position)),
-        Piece::Tail(_) => if_refused(negated || !last, SelectorFault::PseudoElement),
+        Piece::Tail(_) => if_refused(!last, SelectorFault::PseudoElement),
         Piece::Strange => Some(SelectorFault::PseudoElement),
     }
 }
 
+fn is_none(name: &Option<Txt>) -> bool
+    ensures { result ≡ spec.is_none name.now }
+{
+    match name {
+        None => true,
+        Some(_) => false,
+    }
+}
+
+/// The first refusal of a form, with what stands in it.
+#[cycle(refusals)]
+#[tactic(auto, using(crate::proofs::RefusalLemmas::one_refusal, crate::proofs::RefusalLemmas::choice_refusal, crate::proofs::RefusalLemmas::deep_refusal))]
 fn form_refusal(nameless: bool, last: bool, form: &Form) -> Option<SelectorFault>
     ensures { result ≡ spec.form_refusal nameless last form.now }
 {
-    piece_refusal(nameless, form.negated, last, &form.piece)
+    match form {
+        Form::One(piece) => piece_refusal(nameless, last, piece),
+        Form::Choice(_, inners) => inners_refusal(nameless, inners.as_slice()),
+        Form::Deep => Some(SelectorFault::Nested),
+    }
 }
 
 /// The first refusal of the forms of a compound.
+#[cycle(refusals)]
 #[tactic(auto, using(crate::proofs::RefusalLemmas::form_refused, crate::proofs::RefusalLemmas::form_allowed, crate::proofs::RefusalLemmas::no_forms))]
 fn forms_refusal(nameless: bool, last: bool, forms: &[Form]) -> Option<SelectorFault>
     ensures { result ≡ spec.forms_refusal nameless last forms.now }
@@ -90,13 +107,32 @@ fn forms_refusal(nameless: bool, last: bool, forms: &[Form]) -> Option<SelectorF
     None
 }
 
-fn is_none(name: &Option<Txt>) -> bool
-    ensures { result ≡ spec.is_none name.now }
+#[cycle(refusals)]
+#[tactic(auto, using(crate::proofs::RefusalLemmas::inner_prefixed, crate::proofs::RefusalLemmas::inner_plain))]
+fn inner_refusal(nameless: bool, inner: &Inner) -> Option<SelectorFault>
+    ensures { result ≡ spec.inner_refusal nameless inner.now }
 {
-    match name {
-        None => true,
-        Some(_) => false,
+    if inner.prefixed {
+        return Some(SelectorFault::Prefix);
     }
+    forms_refusal(nameless && is_none(&inner.element), false, inner.forms.as_slice())
+}
+
+/// The first refusal of the compounds of a choice.
+#[cycle(refusals)]
+#[tactic(auto, using(crate::proofs::RefusalLemmas::inner_refused, crate::proofs::RefusalLemmas::inner_allowed, crate::proofs::RefusalLemmas::no_inners))]
+fn inners_refusal(nameless: bool, inners: &[Inner]) -> Option<SelectorFault>
+    ensures { result ≡ spec.inners_refusal nameless inners.now }
+{
+    let mut at = 0;
+    while at < inners.len() {
+        let found = inner_refusal(nameless, &inners[at]);
+        if let Some(fault) = found {
+            return Some(fault);
+        }
+        at += 1;
+    }
+    None
 }
 
 fn compound_refusal(last: bool, compound: &Compound) -> Option<SelectorFault>

@@ -2,25 +2,44 @@
 ghost use Rattle.std.specs.Prelude.{◌≡◌, ◌+◌, ◌<◌, ◌≤◌, true, length, IfOk};
 ghost use Rattle.css_parser.specs.Simples as spec;
 ghost use Rattle.css_parser.specs.Names.{nth_called};
-ghost use Rattle.css_parser.specs.Reading.{AreInside, Ends, EndsForm};
+ghost use Rattle.css_parser.specs.Reading.{AreInside, Ends};
 
 use crate::arguments::{
     attr_argument, contains_argument, lang_argument, nth_argument, other_argument,
 };
-use crate::attributes::{attribute, element};
+use crate::attributes::attribute;
 use crate::names::{class_called, nth_called};
-use crate::pieces::{ElementRead, Form, FormRead, Piece, Read};
-use crate::places::{skip, stands, text_at, value_at};
+use crate::pieces::{Piece, Plain, Read, Word};
+use crate::places::{stands, text_at, value_at};
 use css_lexer::{CssKind, CssToken};
-use css_meaning::{Tail, Test};
+use css_selectors::Tail;
 use std::alloc::Global;
 use text_base::NoMemory;
 
-/// Whether a Function of this name is read by the negation alone.
-fn is_negation(name: &str) -> bool
-    ensures { result ≡ spec.is_negation name.now }
+/// The word of a choice, by the name of its Function.
+#[tactic(auto, unfolding(crate::specs::Simples::word_called))]
+pub(crate) fn word_called(name: &str) -> Option<Word>
+    ensures { result ≡ spec.word_called name.now }
 {
-    name.eq_ignore_ascii_case("not")
+    if name.eq_ignore_ascii_case("is") {
+        Some(Word::Is)
+    } else if name.eq_ignore_ascii_case("where") {
+        Some(Word::Where)
+    } else if name.eq_ignore_ascii_case("not") {
+        Some(Word::Not)
+    } else {
+        None
+    }
+}
+
+/// Whether a Function of this name is read by the choice alone.
+fn is_choice(name: &str) -> bool
+    ensures { result ≡ spec.is_choice name.now }
+{
+    match word_called(name) {
+        Some(_) => true,
+        None => false,
+    }
 }
 
 /// The argument and the `)` of a pseudo-class.
@@ -43,7 +62,7 @@ fn class_with(
         contains_argument(alloc, tokens, at)
     } else if name.eq_ignore_ascii_case("lang") {
         lang_argument(alloc, tokens, at)
-    } else if !is_negation(name) {
+    } else if !is_choice(name) {
         Ok(other_argument(tokens, Piece::Unknown, at))
     } else {
         Ok(None)
@@ -107,7 +126,7 @@ fn element_with(
     }
     if name.eq_ignore_ascii_case("attr") {
         attr_argument(alloc, tokens, at)
-    } else if is_negation(name) {
+    } else if is_choice(name) {
         Ok(None)
     } else {
         Ok(other_argument(tokens, Piece::Strange, at))
@@ -158,7 +177,7 @@ fn id(alloc: Global, tokens: &[CssToken], at: usize) -> Result<Option<Read>, NoM
 {
     let name = value_at(alloc, tokens, at)?;
     Ok(Some(Read {
-        piece: Piece::Plain(Test::Id(name)),
+        piece: Piece::Plain(Plain::Id(name)),
         end: at + 1,
     }))
 }
@@ -172,7 +191,7 @@ fn class(alloc: Global, tokens: &[CssToken], at: usize) -> Result<Option<Read>, 
     if stands(tokens, at + 1, CssKind::Ident) {
         let name = value_at(alloc, tokens, at + 1)?;
         Ok(Some(Read {
-            piece: Piece::Plain(Test::Class(name)),
+            piece: Piece::Plain(Plain::Class(name)),
             end: at + 2,
         }))
     } else {
@@ -180,9 +199,9 @@ fn class(alloc: Global, tokens: &[CssToken], at: usize) -> Result<Option<Read>, 
     }
 }
 
-/// The simple selector that is no negation, or the pseudo-element, at a place, if one stands there.
+/// The simple selector that is no choice, or the pseudo-element, at a place, if one stands there.
 #[tactic(auto, unfolding(crate::specs::Simples::piece_at))]
-fn piece_at(
+pub(crate) fn piece_at(
     alloc: Global,
     text: &str,
     tokens: &[CssToken],
@@ -205,121 +224,5 @@ fn piece_at(
         pseudo_element(alloc, text, tokens, at)
     } else {
         Ok(None)
-    }
-}
-
-fn element_piece(element: ElementRead) -> Read
-    ensures { result ≡ spec.element_piece element }
-{
-    let ElementRead {
-        name,
-        prefixed,
-        end,
-    } = element;
-    if prefixed {
-        Read {
-            piece: Piece::Prefixed,
-            end,
-        }
-    } else {
-        Read {
-            piece: Piece::Plain(Test::Element(name)),
-            end,
-        }
-    }
-}
-
-/// What a negation holds, at a place.
-#[tactic(auto, unfolding(crate::specs::Simples::inner))]
-fn inner(
-    alloc: Global,
-    text: &str,
-    tokens: &[CssToken],
-    at: usize,
-) -> Result<Option<Read>, NoMemory>
-    requires inside { AreInside text.now tokens.now }
-    requires within { at ≤ length tokens.now }
-    ensures read { IfOk result (λ read. read ≡ spec.inner text.now tokens.now at) }
-    ensures ends { IfOk result (Ends tokens.now at) }
-{
-    match element(alloc, tokens, at)? {
-        Some(element) => Ok(Some(element_piece(element))),
-        None => piece_at(alloc, text, tokens, at),
-    }
-}
-
-/// The negation at a place where `:` and the Function `not` stand, if it is one.
-#[tactic(auto, unfolding(crate::specs::Simples::negation))]
-fn negation(
-    alloc: Global,
-    text: &str,
-    tokens: &[CssToken],
-    at: usize,
-) -> Result<Option<FormRead>, NoMemory>
-    requires inside { AreInside text.now tokens.now }
-    requires within { at + 1 < length tokens.now }
-    ensures read { IfOk result (λ read. read ≡ spec.negation text.now tokens.now at) }
-    ensures ends { IfOk result (EndsForm tokens.now at) }
-{
-    let Some(read) = inner(alloc, text, tokens, skip(tokens, at + 2))? else {
-        return Ok(None);
-    };
-    let close = skip(tokens, read.end);
-    if stands(tokens, close, CssKind::CloseRound) {
-        Ok(Some(FormRead {
-            form: Form {
-                negated: true,
-                piece: read.piece,
-            },
-            end: close + 1,
-        }))
-    } else {
-        Ok(None)
-    }
-}
-
-fn not_negated(read: Option<Read>) -> Option<FormRead>
-    ensures { result ≡ spec.not_negated read }
-{
-    match read {
-        Some(read) => Some(FormRead {
-            form: Form {
-                negated: false,
-                piece: read.piece,
-            },
-            end: read.end,
-        }),
-        None => None,
-    }
-}
-
-fn begins_negation(tokens: &[CssToken], at: usize) -> bool
-    requires { at ≤ length tokens.now }
-    ensures value { result ≡ spec.begins_negation tokens.now at }
-    ensures within { result ≡ true → at + 1 < length tokens.now }
-{
-    stands(tokens, at, CssKind::Colon)
-        && stands(tokens, at + 1, CssKind::Function)
-        && is_negation(text_at(tokens, at + 1))
-}
-
-/// The simple selector or the pseudo-element at a place, if one stands there.
-#[tactic(auto, unfolding(crate::specs::Simples::simple))]
-pub(crate) fn simple(
-    alloc: Global,
-    text: &str,
-    tokens: &[CssToken],
-    at: usize,
-) -> Result<Option<FormRead>, NoMemory>
-    requires inside { AreInside text.now tokens.now }
-    requires within { at ≤ length tokens.now }
-    ensures read { IfOk result (λ read. read ≡ spec.simple text.now tokens.now at) }
-    ensures ends { IfOk result (EndsForm tokens.now at) }
-{
-    if begins_negation(tokens, at) {
-        negation(alloc, text, tokens, at)
-    } else {
-        let read = piece_at(alloc, text, tokens, at)?;
-        Ok(not_negated(read))
     }
 }

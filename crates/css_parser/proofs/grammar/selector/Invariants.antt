@@ -1,6 +1,6 @@
 use Rattle.std.proofs.Common.{◌≡◌, ◌-◌, ◌<◌, ◌≤◌, length}
 use Rattle.std.specs.Prelude.{None}
-use Rattle.css_parser.specs.Simples.{simple}
+use Rattle.css_parser.specs.Choices.{simple}
 use Rattle.css_parser.specs.Grammar.{IsSelector}
 use Rattle.css_parser.proofs.grammar.selector.Given as goal
 

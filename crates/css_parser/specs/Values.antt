@@ -1,0 +1,94 @@
+-- What forms and inners are as simple selectors and compounds.
+use Rattle.std.specs.Prelude.{ℕ, Bool, true, false, List, [], ◌∷◌, map, flat_map, Option, Some, None}
+use Rattle.css_selectors.specs.declared.selector.Compound as choice
+use Rattle.css_selectors.specs.declared.selector.Simple.{Simple}
+use Rattle.css_selectors.specs.declared.selector.Test.{Test}
+use Rattle.css_selectors.specs.declared.selector.Test.TheVariants as test
+use Rattle.css_selectors.specs.declared.selector.Weight.{Weight}
+use Rattle.css_selectors.specs.declared.selector.Weight.TheVariants as weight
+use Rattle.css_parser.specs.declared.pieces.Plain.{Plain}
+use Rattle.css_parser.specs.declared.pieces.Plain.TheVariants as plain
+use Rattle.css_parser.specs.declared.pieces.Piece.{Piece}
+use Rattle.css_parser.specs.declared.pieces.Piece.TheVariants as piece
+use Rattle.css_parser.specs.declared.pieces.Word.{Word}
+use Rattle.css_parser.specs.declared.pieces.Word.TheVariants as word
+use Rattle.css_parser.specs.declared.pieces.Form.{Form}
+use Rattle.css_parser.specs.declared.pieces.Form.TheOpen as open_
+use Rattle.css_parser.specs.declared.pieces.Form.TheFolds as folds
+use Rattle.css_parser.specs.declared.pieces.Inner.{Inner}
+
+abbrev pub test_of : Plain → Test
+test_of (plain.Id x) = test.Id x
+test_of (plain.Class x) = test.Class x
+test_of (plain.Attr name o v) = test.Attr name o v
+test_of (plain.Nth position a b) = test.Nth position a b
+test_of (plain.Pseudo p) = test.Pseudo p
+test_of (plain.Contains x) = test.Contains x
+test_of (plain.Lang x) = test.Lang x
+
+abbrev pub simple_of : Bool → Test → Simple
+simple_of negated t = record { negated = negated; test = t }
+
+-- The simple selectors that a form gives, and the test of it where it is one simple selector that is no choice.
+pub record FormValue : Type 0 where
+  pub simples : List Simple
+  pub alone : Option Test
+
+-- The compound that an inner is, and the test of it where it is an element alone, or one simple selector alone that is no
+-- choice.
+pub record InnerValue : Type 0 where
+  pub compound : choice.Compound
+  pub alone : Option Test
+
+abbrev pub piece_value : Piece → FormValue
+piece_value (piece.Plain x) = record { simples = simple_of false (test_of x) ∷ []; alone = Some (test_of x) }
+piece_value _ = record { simples = []; alone = None }
+
+abbrev pub alone_in : Bool → Option (List ℕ) → List FormValue → Option Test
+alone_in true element [] = Some (test.Element element)
+alone_in true element (x ∷ xs) = None
+alone_in false element [] = None
+alone_in false element (x ∷ []) = x.alone
+alone_in false element (x ∷ y ∷ xs) = None
+
+-- what stands in a choice, where it is alone there
+abbrev pub alone_of : List InnerValue → Option Test
+alone_of [] = None
+alone_of (x ∷ []) = x.alone
+alone_of (x ∷ y ∷ xs) = None
+
+abbrev pub any : Weight → List InnerValue → Test
+any w xs = test.Any w (map (λ x. x.compound) xs)
+
+-- a negation of something alone negates that, and any other negates the choice
+abbrev pub negation : Option Test → List InnerValue → Simple
+negation (Some t) xs = simple_of true t
+negation None xs = simple_of true (any weight.Most xs)
+
+abbrev pub choice_value : Word → List InnerValue → Simple
+choice_value word.Is xs = simple_of false (any weight.Most xs)
+choice_value word.Where xs = simple_of false (any weight.Zero xs)
+choice_value word.Not xs = negation (alone_of xs) xs
+
+abbrev pub form_step : open_.Form-F FormValue InnerValue → FormValue
+form_step (open_.One p) = piece_value p
+form_step (open_.Choice w xs) = record { simples = choice_value w xs ∷ []; alone = None }
+form_step open_.Deep = record { simples = []; alone = None }
+
+abbrev pub inner_step : open_.Inner-F FormValue InnerValue → InnerValue
+inner_step x = record {
+  compound = choice.roll-Compound (record { element = x.element; simples = flat_map (λ f. f.simples) x.forms });
+  alone = alone_in x.named x.element x.forms;
+}
+
+unfoldable pub form_value : Form → FormValue
+form_value = folds.fold-Form FormValue InnerValue form_step inner_step
+
+unfoldable pub inner_value : Inner → InnerValue
+inner_value = folds.fold-Inner FormValue InnerValue form_step inner_step
+
+abbrev pub form_simples : Form → List Simple
+form_simples x = (form_value x).simples
+
+abbrev pub compound_of : Inner → choice.Compound
+compound_of x = (inner_value x).compound
