@@ -1,5 +1,5 @@
--- Simple selectors, choices and pseudo-elements. A choice is read with what stands in it, at most eight choices deep; what is
--- deeper is read, and not kept.
+-- Simple selectors, choices and pseudo-elements, after Selectors Level 4, sections 4.2 to 4.4. A choice is read at any depth.
+-- What stands in it is kept of those that stand inside seven others at most.
 use Rattle.std.specs.Prelude.{◌≡◌, ℕ, zero, suc, ◌+◌, ◌&&◌, Bool, true, false, if◌then◌else◌, List, [], ◌∷◌, length, Option, Some, None}
 use Rattle.css_lexer.specs.declared.tokens.CssKind.TheVariants as kind
 use Rattle.css_lexer.specs.declared.tokens.CssToken.{CssToken}
@@ -35,7 +35,7 @@ abbrev pub deep_read : Option InnersRead → Option FormRead
 deep_read None = None
 deep_read (Some r) = Some (form_read form.Deep r.end)
 
--- what is read at a place
+-- what is read at each place
 abbrev pub Reader : Type 0
 Reader = ℕ → Option FormRead
 
@@ -48,7 +48,7 @@ abbrev pub Forms : Reader → ℕ → List Form → ℕ → Type 0
 Forms f i [] j = i ≡ j
 Forms f i (x ∷ xs) j = (k : ℕ) × (f i ≡ Some (form_read x k)) × Forms f k xs j
 
--- the forms from i on, as many as there are, where m is enough
+-- the forms from i on, as many as there are and m at most
 abbrev pub forms_from : Reader → ℕ → ℕ → FormsRead
 forms_from f zero i = record { forms = []; end = i }
 forms_from f (suc m) i = forms_by i (forms_from f m) (f i)
@@ -73,7 +73,7 @@ module _ (text : List ℕ) (ts : List CssToken) where
   unfoldable pub inner_at : Reader → ℕ → Option InnerRead
   inner_at f i = inner_with (element ts i) (forms_from f (length ts)) i
 
-  -- behind an inner and S: `)`, or `,` and more
+  -- after an inner and S: `)`, or `,` and more
   abbrev pub inners_by : (ℕ → Option InnersRead) → Option InnerRead → Option InnersRead
   inners_by more None = None
   inners_by more (Some r) =
@@ -82,11 +82,12 @@ module _ (text : List ℕ) (ts : List CssToken) where
       else (if stands kind.Comma ts j then front r.inner (more (j + 1))
       else None)
 
-  -- S, an inner and S, then any number of `,`, S, an inner and S, then `)`, where m is enough
+  -- S, an inner and S, then any number of `,`, S, an inner and S, then `)`, with m inners at most
   abbrev pub inners_from : Reader → ℕ → ℕ → Option InnersRead
   inners_from f zero i = None
   inners_from f (suc m) i = inners_by (inners_from f m) (inner_at f (skip ts i))
 
+  -- as many as tokens are enough
   abbrev pub inners : Reader → ℕ → Option InnersRead
   inners f i = inners_from f (length ts) i
 
@@ -98,20 +99,20 @@ module _ (text : List ℕ) (ts : List CssToken) where
   simple_with None plain r = plain
   simple_with (Some w) plain r = choice_read w r
 
-  -- a simple selector or a pseudo-element, where no more than n choices stand in each other and none is kept
+  -- a simple selector, a choice or a pseudo-element, with at most n choices in each other, of which nothing is kept
   unfoldable pub deep_by : ℕ → Reader
   deep_by zero i = deep_with (word_at ts i) (one_read (piece_at text ts i)) None
   deep_by (suc n) i = deep_with (word_at ts i) (one_read (piece_at text ts i)) (inners (deep_by n) (i + 2))
 
-  -- As many as tokens are enough.
+  -- As many levels as tokens are enough.
   abbrev pub deep : Reader
   deep i = deep_by (length ts) i
 
-  -- a simple selector or a pseudo-element, with n choices that stand in each other
+  -- a simple selector, a choice or a pseudo-element, where n choices in each other are kept and what is deeper is not
   unfoldable pub simple_by : ℕ → Reader
   simple_by zero i = deep i
   simple_by (suc n) i = simple_with (word_at ts i) (one_read (piece_at text ts i)) (inners (simple_by n) (i + 2))
 
--- A choice that stands inside eight others is not kept.
+-- a simple selector, a choice or a pseudo-element; nothing is kept of a choice inside eight others
 abbrev pub simple : List ℕ → List CssToken → Reader
 simple text ts i = simple_by text ts 8 i

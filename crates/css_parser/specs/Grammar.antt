@@ -12,7 +12,7 @@ use Rattle.css_parser.specs.Places.{stands, skip}
 use Rattle.css_parser.specs.Choices.{simple, Forms}
 use Rattle.css_parser.specs.Simples.{element}
 
--- from i up to j stand these simple selectors and pseudo-elements
+-- from i up to j stand these simple selectors, choices and pseudo-elements
 abbrev pub Simples : List ℕ → List CssToken → ℕ → List Form → ℕ → Type 0
 Simples text ts i xs j = Forms (simple text ts) i xs j
 

@@ -164,8 +164,8 @@ class_with text ts name None i =
     else (if is_choice name then None
     else other_argument ts piece.Unknown i))
 
--- pseudo-class: `:` and an Ident, or `:`, a Function, its argument and `)`. A Function with the name of a
--- choice is read by the choice alone.
+-- pseudo-class: `:` and an Ident, or `:`, a Function, its argument and `)`. A Function with the name of a choice is read by
+-- the choice alone.
 unfoldable pub pseudo_class : List ℕ → List CssToken → ℕ → Option Read
 pseudo_class text ts i =
     if stands kind.Ident ts (i + 1) then Some (read (class_called (text_at ts (i + 1))) (i + 2))

@@ -1,12 +1,15 @@
-//! Simple selectors, choices and pseudo-elements. A choice is read with what stands in it, at most eight
-//! choices deep. No call goes deeper: where each choice ends is found from the last token to the first.
+//! Simple selectors, choices and pseudo-elements. A choice is read with what stands in it, at most
+//! eight choices deep. No call goes deeper: where each choice ends is found from the last token to
+//! the first, so that those inside a choice are known when it is read.
 ghost use Rattle.std.specs.Prelude.{◌≡◌, ◌+◌, ◌-◌, ◌<◌, ◌≤◌, true, length, IfOk, IfSome, Some, None};
 ghost use Rattle.css_parser.specs.Choices as spec;
 ghost use Rattle.css_parser.specs.Choices.{simple_by};
 ghost use Rattle.css_parser.specs.Reading.{AreInside, Begins, EndsForm, EndsInner, EndsInners, IsChoiceEnd, IsFormsRead, IsTable, deep_end};
 
 use crate::attributes::element;
-use crate::pieces::{ElementRead, Form, FormRead, FormsRead, Inner, InnerRead, InnersRead, Read, Word};
+use crate::pieces::{
+    ElementRead, Form, FormRead, FormsRead, Inner, InnerRead, InnersRead, Read, Word,
+};
 use crate::places::{skip, stands, text_at};
 use crate::simples::{piece_at, word_called};
 use css_lexer::{CssKind, CssToken};
@@ -55,7 +58,10 @@ fn deep_form(end: Option<usize>) -> Option<FormRead>
     ensures { result ≡ deep_end end }
 {
     match end {
-        Some(end) => Some(FormRead { form: Form::Deep, end }),
+        Some(end) => Some(FormRead {
+            form: Form::Deep,
+            end,
+        }),
         None => None,
     }
 }
@@ -175,7 +181,7 @@ fn inner(
     }
 }
 
-/// What stands in a choice, from behind its Function on, with its `)`, if it is one.
+/// What stands in a choice, from after its Function on, with its `)`, if it is one.
 #[cycle(reading)]
 #[tactic(auto, using(crate::proofs::ChoiceLemmas::inners_begun, crate::proofs::ChoiceLemmas::inners_none, crate::proofs::ChoiceLemmas::inners_last, crate::proofs::ChoiceLemmas::inners_more, crate::proofs::ChoiceLemmas::inners_strange))]
 fn inners(
@@ -215,7 +221,7 @@ fn inners(
     }
 }
 
-/// Where each choice ends, from that of the last token to the first.
+/// For each token, from the last to the first, where the choice that begins with it ends, or None.
 #[tactic(auto, using(crate::proofs::ChoiceLemmas::no_table, crate::proofs::ChoiceLemmas::table_more))]
 pub(crate) fn choice_ends(
     alloc: Global,
@@ -239,7 +245,7 @@ pub(crate) fn choice_ends(
     Ok(ends)
 }
 
-/// Where the choice at a place ends, if one stands there, where the ends of those behind it are known.
+/// Where the choice at a place ends, if one is read there, where the ends of those after it are known.
 #[tactic(auto, using(crate::proofs::ChoiceLemmas::no_choice, crate::proofs::ChoiceLemmas::read_end, crate::proofs::ChoiceLemmas::no_end))]
 fn choice_end(
     alloc: Global,

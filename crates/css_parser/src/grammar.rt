@@ -8,7 +8,6 @@ use crate::attributes::element;
 use crate::choices::{choice_ends, forms};
 use crate::pieces::{Compound, CompoundRead, ElementRead, FormsRead, LinkRead, SelectorRead};
 use crate::places::{skip, stands};
-
 use css_lexer::{CssKind, CssToken};
 use css_selectors::Link;
 use std::alloc::Global;

@@ -53,13 +53,13 @@ pub(crate) enum Word {
 pub(crate) enum Form {
     /// A piece that is no choice.
     One(Piece),
-    /// A choice, and what stands in it.
+    /// A choice, and what stands in it: at least one compound.
     Choice(Word, Seq<Inner>),
     /// A choice inside eight others. What stands in it is not kept.
     Deep,
 }
 
-/// A compound of a choice.
+/// A compound that stands in a choice.
 #[cycle(forms)]
 #[derive(Drop)]
 pub(crate) struct Inner {
@@ -71,12 +71,14 @@ pub(crate) struct Inner {
     pub(crate) forms: Seq<Form>,
 }
 
+/// A compound of a choice, and the place of the token after it.
 #[derive(Drop)]
 pub(crate) struct InnerRead {
     pub(crate) inner: Inner,
     pub(crate) end: usize,
 }
 
+/// The compounds of a choice, and the place of the token after its `)`.
 #[derive(Drop)]
 pub(crate) struct InnersRead {
     pub(crate) inners: Seq<Inner>,

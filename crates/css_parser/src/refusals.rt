@@ -25,7 +25,7 @@ fn is_only_of_type(pseudo: Pseudo) -> bool
     }
 }
 
-/// Whether the test needs the name of the compound's element.
+/// Whether it needs the name of an element.
 fn needs_element(plain: &Plain) -> bool
     ensures { result ≡ spec.needs_element plain.now }
 {
@@ -53,8 +53,8 @@ fn large_refusal(nameless: bool, position: Nth) -> SelectorFault
     }
 }
 
-/// The refusal of a piece, in a compound without an element's name or with one, in a negation or
-/// not, and as the last of its selector or not.
+/// The refusal of a piece, where no compound around it has an element's name or one has, and as the
+/// last of its selector or not.
 fn piece_refusal(nameless: bool, last: bool, piece: &Piece) -> Option<SelectorFault>
     ensures { result ≡ spec.piece_refusal nameless last piece.now }
 {
@@ -107,6 +107,7 @@ fn forms_refusal(nameless: bool, last: bool, forms: &[Form]) -> Option<SelectorF
     None
 }
 
+/// The first refusal of a compound of a choice. What stands there is not the last of its selector.
 #[cycle(refusals)]
 #[tactic(auto, using(crate::proofs::RefusalLemmas::inner_prefixed, crate::proofs::RefusalLemmas::inner_plain))]
 fn inner_refusal(nameless: bool, inner: &Inner) -> Option<SelectorFault>
@@ -115,7 +116,11 @@ fn inner_refusal(nameless: bool, inner: &Inner) -> Option<SelectorFault>
     if inner.prefixed {
         return Some(SelectorFault::Prefix);
     }
-    forms_refusal(nameless && is_none(&inner.element), false, inner.forms.as_slice())
+    forms_refusal(
+        nameless && is_none(&inner.element),
+        false,
+        inner.forms.as_slice(),
+    )
 }
 
 /// The first refusal of the compounds of a choice.

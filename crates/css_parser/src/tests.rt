@@ -27,7 +27,6 @@ fn worked_rows(rt: HostRuntime) -> Result<(), Fail> {
         ("", "Syntax"),
         ("a,", "Syntax"),
         ("::not(a)", "Syntax"),
-        (":not(:not(a))", "Syntax"),
         ("::nth-child(x)", "Syntax"),
         (":nth-child(\\6e)", "Syntax"),
         (":nth-child(+ 2n)", "Syntax"),
@@ -59,5 +58,97 @@ fn too_long(rt: HostRuntime) -> Result<(), Fail> {
     assert!(rt; gives(alloc, text.as_str(), "Ok"));
     text.push('a')?;
     assert!(rt; gives(alloc, text.as_str(), "Long"));
+    Ok(())
+}
+
+#[test]
+fn choices(rt: HostRuntime) -> Result<(), Fail> {
+    let alloc = rt.alloc();
+    let rows = [
+        ("a:is(.x, #y)", "Ok"),
+        (":where(li, td):not(p.x, b)", "Ok"),
+        (":not(:not(a))", "Ok"),
+        (":IS( a.b , #c )", "Ok"),
+        (":\\69s(a)", "Ok"),
+        (":is()", "Syntax"),
+        (":is(a b)", "Syntax"),
+        (":is(a > b)", "Syntax"),
+        (":is(a,)", "Syntax"),
+        (":is(a", "Syntax"),
+        ("::is(a)", "Syntax"),
+        ("::where(a)", "Syntax"),
+        (":foo(:is())", "UnknownPseudo"),
+        (":is", "UnknownPseudo"),
+        ("a:has(b)", "UnknownPseudo"),
+    ];
+    for (text, word) in rows {
+        assert!(rt; gives(alloc, text, word));
+    }
+    Ok(())
+}
+
+#[test]
+fn refused_in_choices(rt: HostRuntime) -> Result<(), Fail> {
+    let alloc = rt.alloc();
+    let rows = [
+        ("li:is(:first-of-type)", "Ok"),
+        (":is(a:first-of-type)", "Ok"),
+        (":is(:first-of-type)", "OfType"),
+        (":where(:nth-of-type(1000001))", "OfType"),
+        (":is(:nth-child(1000001), :first-of-type)", "Number"),
+        (":is(x|a, :foo)", "Prefix"),
+        (":is(::text)", "PseudoElement"),
+        ("a:not(::text)::text", "PseudoElement"),
+    ];
+    for (text, word) in rows {
+        assert!(rt; gives(alloc, text, word));
+    }
+    Ok(())
+}
+
+#[test]
+fn eight_choices(rt: HostRuntime) -> Result<(), Fail> {
+    let alloc = rt.alloc();
+    let rows = [
+        (":not(:not(:not(:not(:not(:not(:not(:not(a))))))))", "Ok"),
+        (
+            ":not(:not(:not(:not(:not(:not(:not(:not(:not(a)))))))))",
+            "Nested",
+        ),
+        (
+            ":is(:is(:is(:is(:is(:is(:is(:is(:is(:foo)))))))))",
+            "Nested",
+        ),
+        (
+            ":is(:is(:is(:is(:is(:is(:is(:is(:foo,:is(a)))))))))",
+            "UnknownPseudo",
+        ),
+        (":is(:is(:is(:is(:is(:is(:is(:is(:is()))))))))", "Syntax"),
+    ];
+    for (text, word) in rows {
+        assert!(rt; gives(alloc, text, word));
+    }
+    Ok(())
+}
+
+/// Choices in each other, so many deep, around a text.
+fn nested(alloc: Global, depth: usize, inside: &str) -> Result<String, Fail> {
+    let mut text = String::new(alloc);
+    for _ in 0..depth {
+        text.push_str(":is(")?;
+    }
+    text.push_str(inside)?;
+    for _ in 0..depth {
+        text.push(')')?;
+    }
+    Ok(text)
+}
+
+#[test]
+fn deepest(rt: HostRuntime) -> Result<(), Fail> {
+    let alloc = rt.alloc();
+    assert!(rt; gives(alloc, nested(alloc, 3276, "a")?.as_str(), "Nested"));
+    assert!(rt; gives(alloc, nested(alloc, 3276, "")?.as_str(), "Syntax"));
+    assert!(rt; gives(alloc, nested(alloc, 3276, "a b")?.as_str(), "Syntax"));
     Ok(())
 }
