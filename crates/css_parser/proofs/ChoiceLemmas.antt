@@ -372,31 +372,3 @@ module _ (text : List ℕ) (ts : List CssToken) (f : Reader) (from : ℕ) where
       → stands kind.CloseRound ts behind ≡ false → stands kind.Comma ts behind ≡ false → None ≡ inners text ts f from
   inners_cut done i r start o behind h low s at ends e d c g =
       sym (inners_strange done i r h (inside i start o r low s ends e) (ap (inner_at text ts f) (sym s) ∙ sym at ∙ e) (ap (stands kind.CloseRound ts) (sym d) ∙ c) (ap (stands kind.Comma ts) (sym d) ∙ g))
-
--- where the choices end
-module _ (text : List ℕ) (ts : List CssToken) where
-  pub no_choice : (i : ℕ) → word_at ts i ≡ None → IsChoiceEnd text ts i None
-  no_choice i e w f = let z : None ≡ Some w = sym e ∙ f in cc
-
-  -- the compounds that are read with no room are those that are read at any depth
-  pub read_end : (i : ℕ) (w : Word) (r : InnersRead) → i < length ts → word_at ts i ≡ Some w → Some r ≡ inners text ts (simple_by text ts 0) (i + 2) → IsChoiceEnd text ts i (Some r.end)
-  unfolding simple_by
-  read_end i w r l e h v f = sym (deep_is text ts i w (omega arith) e ∙ ap deep_read (sym h))
-
-  pub no_end : (i : ℕ) (w : Word) → i < length ts → word_at ts i ≡ Some w → None ≡ inners text ts (simple_by text ts 0) (i + 2) → IsChoiceEnd text ts i None
-  unfolding simple_by
-  no_end i w l e h v f = sym (deep_is text ts i w (omega arith) e ∙ ap deep_read (sym h))
-
-  pub no_table : IsTable text ts []
-  no_table i l h = absurd (omega arith)
-
-  pub table_more : (ends : List (Option ℕ)) (i : ℕ) (end : Option ℕ) → i + 1 + length ends ≡ length ts → IsTable text ts ends → IsChoiceEnd text ts i end → IsTable text ts (ends ++ end ∷ [])
-  table_more ends i end known table here k l h = by_place (cases_lt i k)
-    where
-      by_place : (i < k) ⊎ (k ≤ i) → IsChoiceEnd text ts k (get_or (ends ++ end ∷ []) (length ts - 1 - k) None)
-      by_place (inl more) = subst (IsChoiceEnd text ts k) (sym (get_or_append_left ends (end ∷ []) None (length ts - 1 - k) (omega arith))) (table k l (omega arith))
-      by_place (inr less) =
-          let at : k ≡ i = omega (arith, h, length-append ends (end ∷ [])) in
-          let last : length ends ≡ length ts - 1 - k = omega arith in
-          subst (λ n. IsChoiceEnd text ts n (get_or (ends ++ end ∷ []) (length ts - 1 - k) None)) (sym at)
-          (subst (IsChoiceEnd text ts i) (sym (get_or_push ends end None (length ts - 1 - k) last)) here)

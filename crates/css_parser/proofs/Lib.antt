@@ -2,6 +2,7 @@ pub mod ArgumentLemmas
 pub mod ChoiceFits
 pub mod ChoiceLemmas
 pub mod CopyLemmas
+pub mod DepthLemmas
 pub mod Endings
 pub mod Existence
 pub mod Fitting
@@ -11,6 +12,7 @@ pub mod NthLemmas
 pub mod PlaceLemmas
 pub mod RefusalLemmas
 pub mod SelectingLemmas
+pub mod TableLemmas
 pub mod ValueFits
 pub mod ValueLemmas
 pub mod WellMadeLemmas

@@ -59,28 +59,25 @@ module _ (text : List ℕ) (ts : List CssToken) where
   forms_given : (i j : ℕ) (xs : List Form) → i ≤ length ts → Simples text ts i xs j → GivesForms 8 i xs j
   forms_given i j xs low h = forms_give ts 8 (simple text ts) (simple_ends text ts) (λ k l. by_gives text ts 8 k l) i j xs low h
 
-  forms_end : (i j : ℕ) (xs : List Form) → i ≤ length ts → Simples text ts i xs j → j ≤ length ts
-  forms_end i j [] low h = omega arith
-  forms_end i j (x ∷ xs) low h = let behind = subst (EndsForm ts i) h.1 (simple_ends text ts i low) in forms_end h.0 j xs behind.within h.2
+  record IsSpan (i j : ℕ) : Type 0 where
+    order : i ≤ j
+    within : j ≤ length ts
+
+  forms_span : (i j : ℕ) (xs : List Form) → i ≤ length ts → Simples text ts i xs j → IsSpan i j
+  forms_span i j [] low h = record { order = omega arith; within = omega arith }
+  forms_span i j (x ∷ xs) low h =
+      let behind = subst (EndsForm ts i) h.1 (simple_ends text ts i low) in
+      let rest = forms_span h.0 j xs behind.within h.2 in
+      record { order = omega (arith, behind.moves, rest.order); within = rest.within }
 
   -- some forms end behind their place
   forms_move : (i j : ℕ) (xs : List Form) → i ≤ length ts → Simples text ts i xs j → xs ≢ [] → i < j
   forms_move i j [] low h some = absurd (some refl)
   forms_move i j (x ∷ xs) low h some =
       let behind = subst (EndsForm ts i) h.1 (simple_ends text ts i low) in
-      let moves = behind.moves in
-      let more = rest_order h.0 j xs behind.within h.2 in
-      omega arith
-    where
-      rest_order : (i j : ℕ) (xs : List Form) → i ≤ length ts → Simples text ts i xs j → i ≤ j
-      rest_order i j [] low h = omega arith
-      rest_order i j (x ∷ xs) low h =
-          let behind = subst (EndsForm ts i) h.1 (simple_ends text ts i low) in
-          let moves = behind.moves in
-          let more = rest_order h.0 j xs behind.within h.2 in
-          omega arith
+      omega (arith, behind.moves, (forms_span h.0 j xs behind.within h.2).order)
 
-  -- A compound is well made, and it has no more than two parts and simple selectors for each token.
+  -- A compound is well made, and has at most two parts and simple selectors for each token.
   record Given (c : Compound) (i j : ℕ) : Type 0 where
     part : (last : Bool) → compound_refusal last c ≡ None → made.IsPart (part_of c)
     size : part_size (part_of c) + 2 * i ≤ 2 * j
@@ -102,14 +99,14 @@ module _ (text : List ℕ) (ts : List CssToken) where
       by_element None e =
           let some = (subst (λ o. HasElement o c) e h.begins).2 in
           let simples = subst (λ o. Simples text ts (past_element o i) c.forms j) e h.simples in
-          of_forms i i j c (omega arith) (forms_move i j c.forms l simples some) (forms_end i j c.forms l simples) (forms_given i j c.forms l simples)
+          of_forms i i j c (omega arith) (forms_move i j c.forms l simples some) (forms_span i j c.forms l simples).within (forms_given i j c.forms l simples)
       by_element (Some r) e =
           let behind = element_behind ts i r e in
           let moves = behind.moves in
           let simples = subst (λ o. Simples text ts (past_element o i) c.forms j) e h.simples in
           let g = forms_given r.end j c.forms behind.within simples in
           let size = g.size in
-          of_forms i r.end j c (omega arith) (omega arith) (forms_end r.end j c.forms behind.within simples) g
+          of_forms i r.end j c (omega arith) (omega arith) (forms_span r.end j c.forms behind.within simples).within g
 
   -- combinators
   record IsJoined (i : ℕ) (r : LinkRead) : Type 0 where

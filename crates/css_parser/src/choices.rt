@@ -222,7 +222,7 @@ fn inners(
 }
 
 /// For each token, from the last to the first, where the choice that begins with it ends, or None.
-#[tactic(auto, using(crate::proofs::ChoiceLemmas::no_table, crate::proofs::ChoiceLemmas::table_more))]
+#[tactic(auto, using(crate::proofs::TableLemmas::no_table, crate::proofs::TableLemmas::table_more))]
 pub(crate) fn choice_ends(
     alloc: Global,
     text: &str,
@@ -246,7 +246,7 @@ pub(crate) fn choice_ends(
 }
 
 /// Where the choice at a place ends, if one is read there, where the ends of those after it are known.
-#[tactic(auto, using(crate::proofs::ChoiceLemmas::no_choice, crate::proofs::ChoiceLemmas::read_end, crate::proofs::ChoiceLemmas::no_end))]
+#[tactic(auto, using(crate::proofs::TableLemmas::no_choice, crate::proofs::TableLemmas::read_end, crate::proofs::TableLemmas::no_end))]
 fn choice_end(
     alloc: Global,
     text: &str,

@@ -1,4 +1,4 @@
-ghost use Rattle.css_parser.specs.Laws.{HasListOrFault, HasOneReading, HasOneFault, IsListOrFault, IsWellMade};
+ghost use Rattle.css_parser.specs.Laws.{HasListOrFault, HasOneReading, HasOneFault, IsListOrFault, IsReadAlike, IsWellMade, KeepsEnds};
 
 /// Each text is accepted as one list, which is well made, or has one fault, and not both.
 #[tactic(auto, using(crate::proofs::SelectingLemmas::one_fault))]
@@ -8,4 +8,11 @@ pub fn one_list_or_fault()
     ensures not_both { IsListOrFault }
     ensures some { HasListOrFault }
     ensures well_made { IsWellMade }
+{}
+
+/// The grammar of choices has no depth. Whether a choice is read, and where it ends, depends on what
+/// stands in it alone: not on how deep it stands, nor on how much of it is kept.
+pub fn choices_without_depth()
+    ensures alike { IsReadAlike }
+    ensures ends { KeepsEnds }
 {}

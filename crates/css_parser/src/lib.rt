@@ -19,5 +19,5 @@ mod simples;
 mod tests;
 mod values;
 
-pub use laws::one_list_or_fault;
+pub use laws::{choices_without_depth, one_list_or_fault};
 pub use parsing::parse_selectors;

@@ -1,5 +1,5 @@
 use Rattle.std.proofs.Common.{sym, ◌∙◌}
-use Rattle.css_parser.proofs.ChoiceLemmas as lemma
+use Rattle.css_parser.proofs.TableLemmas as lemma
 use Rattle.css_parser.proofs.choices.choice_end.Goals as goal
 
 pub returns-in-Some-2 : goal.returns-in-Some-2
