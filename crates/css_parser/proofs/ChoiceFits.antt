@@ -1,36 +1,33 @@
 -- What is read at a place, with so many choices in each other, is well made with so many where it is not refused.
-use Rattle.std.proofs.Common.{◌≡◌, ℕ, zero, suc, ◌+◌, ◌<◌, ◌≤◌, Bool, true, false, ◌&&◌, cond, List, [], ◌∷◌, length, map, refl, sym, ◌∙◌, ap, subst, arith}
-use Rattle.std.specs.Prelude.{◌==◌, Option, Some, None, All, sum_by}
+use Rattle.std.proofs.Common.{◌≡◌, ℕ, zero, suc, ◌+◌, ◌<◌, ◌≤◌, Bool, true, false, cond, List, [], ◌∷◌, length, map, refl, sym, ◌∙◌, ap, subst, arith}
+use Rattle.std.specs.Prelude.{Option, Some, None, All, sum_by}
 use Rattle.std.proofs.lemmas.List.Elements.{All-nil, All-cons}
 use Rattle.std.proofs.lemmas.List.Sums.{sum_by-cons}
 use Rattle.css_lexer.specs.declared.tokens.CssKind.TheVariants as kind
 use Rattle.css_lexer.specs.declared.tokens.CssToken.{CssToken}
-use Rattle.css_selectors.specs.declared.selector.Simple.{Simple}
 use Rattle.css_selectors.specs.declared.selector.Test.{Test}
 use Rattle.css_selectors.specs.declared.selector.Test.TheVariants as test
 use Rattle.css_selectors.specs.declared.selector.Weight.{Weight}
 use Rattle.css_selectors.specs.declared.selector.Weight.TheVariants as weight
 use Rattle.css_selectors.specs.Sizes.{compound_size, simple_size}
 use Rattle.css_selectors.proofs.Equations.{size_of_any}
-use Rattle.css_parser.specs.declared.pieces.Read.{Read}
 use Rattle.css_parser.specs.declared.pieces.Word.{Word}
 use Rattle.css_parser.specs.declared.pieces.Word.TheVariants as word
 use Rattle.css_parser.specs.declared.pieces.Form.{Form}
 use Rattle.css_parser.specs.declared.pieces.Form.TheOpen as open_
 use Rattle.css_parser.specs.declared.pieces.Form.TheVariants as form
 use Rattle.css_parser.specs.declared.pieces.Form.TheViews as views
-use Rattle.css_parser.specs.declared.pieces.FormRead.{FormRead}
 use Rattle.css_parser.specs.declared.pieces.FormsRead.{FormsRead}
-use Rattle.css_parser.specs.declared.pieces.Inner.{Inner, out-Inner, roll-Inner}
+use Rattle.css_parser.specs.declared.pieces.Inner.{Inner}
 use Rattle.css_parser.specs.declared.pieces.InnerRead.{InnerRead}
 use Rattle.css_parser.specs.declared.pieces.InnersRead.{InnersRead}
 use Rattle.css_parser.specs.declared.pieces.ElementRead.{ElementRead}
 use Rattle.css_parser.specs.Places.{stands, skip}
 use Rattle.css_parser.specs.Simples.{element, piece_at}
 use Rattle.css_parser.specs.Choices.{word_at, one_read, choice_read, deep_read, deep, simple_by, simple_with, Reader, forms_from, inner_read, some_read, inner_with, front, inner_at, inners_by, inners_from, inners}
-use Rattle.css_parser.specs.Reading.{IsBehind, EndsElement, EndsInner, EndsInners}
+use Rattle.css_parser.specs.Reading.{EndsElement, EndsInner, EndsInners}
 use Rattle.css_parser.specs.Refusals.{is_none, inner_refusal, inners_refusal}
-use Rattle.css_parser.specs.Values.{simple_of, alone_of, any, negation, choice_value, form_value, inner_value, form_simples, compound_of}
+use Rattle.css_parser.specs.Values.{simple_of, alone_of, any, negation, choice_value, inner_value, compound_of}
 use Rattle.css_parser.proofs.PlaceLemmas.{skip_order, skip_within, stands_within}
 use Rattle.css_parser.proofs.Endings.{element_ends}
 use Rattle.css_parser.proofs.RefusalLemmas.{choice_refusal}

@@ -1,14 +1,11 @@
 -- Choices: where they end, more room than is needed changes nothing, and what the loops keep.
-use Rattle.std.proofs.lemmas.List.{get_or_append_left, get_or_push}
-use Rattle.std.proofs.lemmas.Bool.{cases_lt}
-use Rattle.std.proofs.Common.{inl, inr, ◌⊎◌, length-append, ◌≡◌, ℕ, zero, suc, ◌+◌, ◌-◌, ◌<◌, ◌≤◌, Bool, true, false, cond, List, [], ◌∷◌, ◌++◌, length, get_or, refl, sym, ◌∙◌, ap, subst, arith, eqb-true, append_assoc}
+use Rattle.std.proofs.Common.{◌≡◌, ℕ, zero, suc, ◌+◌, ◌-◌, ◌<◌, ◌≤◌, Bool, true, false, cond, List, [], ◌∷◌, ◌++◌, length, get_or, refl, sym, ◌∙◌, ap, subst, arith, append_assoc}
 use Rattle.std.specs.Prelude.{◌==◌, ◌≢◌, ◌↔◌, ◌&&◌, IsTrue, Option, Some, None}
 use Rattle.std.proofs.lemmas.Bool.Decides.{nat_tests}
 use Rattle.css_lexer.specs.declared.tokens.CssKind.TheVariants as kind
 use Rattle.css_lexer.specs.declared.tokens.CssToken.{CssToken}
 use Rattle.css_parser.specs.declared.pieces.Word.{Word}
 use Rattle.css_parser.specs.declared.pieces.Form.{Form}
-use Rattle.css_parser.specs.declared.pieces.Form.TheVariants as form
 use Rattle.css_parser.specs.declared.pieces.Read.{Read}
 use Rattle.css_parser.specs.declared.pieces.FormRead.{FormRead}
 use Rattle.css_parser.specs.declared.pieces.FormsRead.{FormsRead}
@@ -16,11 +13,11 @@ use Rattle.css_parser.specs.declared.pieces.Inner.{Inner}
 use Rattle.css_parser.specs.declared.pieces.InnerRead.{InnerRead}
 use Rattle.css_parser.specs.declared.pieces.InnersRead.{InnersRead}
 use Rattle.css_parser.specs.declared.pieces.ElementRead.{ElementRead}
-use Rattle.css_parser.specs.Places.{code_at, stands, skip, text_at}
-use Rattle.css_parser.specs.Simples.{element, piece_at, word_called}
+use Rattle.css_parser.specs.Places.{code_at, stands, skip}
+use Rattle.css_parser.specs.Simples.{element, piece_at}
 use Rattle.css_parser.specs.Choices.{word_at, form_read, one_read, choice_read, deep_read, Reader, Forms, forms_by, forms_from, inner_read, some_read, inner_with, front, inner_at, inners_by, inners_from, inners, deep_with, simple_with, deep_by, deep, simple_by, simple}
-use Rattle.css_parser.specs.Reading.{IsBehind, EndsElement, Ends, EndsForm, EndsInner, EndsInners, IsFormsRead, deep_end, IsChoiceEnd, IsTable}
-use Rattle.css_parser.proofs.PlaceLemmas.{code_within, code_end, skip_order, skip_within, stands_within}
+use Rattle.css_parser.specs.Reading.{IsBehind, EndsElement, Ends, EndsForm, EndsInner, EndsInners, IsFormsRead, deep_end, IsTable}
+use Rattle.css_parser.proofs.PlaceLemmas.{skip_order, skip_within, stands_within}
 use Rattle.css_parser.proofs.Endings.{element_ends, piece_ends}
 
 pub not_empty : (b : Bool) (xs : List Form) → (IsTrue b ↔ (xs ≡ [])) → b ≡ false → xs ≢ []

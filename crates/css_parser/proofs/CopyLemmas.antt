@@ -1,12 +1,12 @@
 -- Lists that are built by pushing.
-use Rattle.std.proofs.Common.{false, ◌≡◌, ℕ, ◌+◌, ◌<◌, ◌≤◌, List, [], ◌∷◌, ◌++◌, length, take, get_or, map, flat_map, sym, ◌∙◌, ap}
+use Rattle.std.proofs.Common.{◌≡◌, ℕ, ◌+◌, ◌<◌, ◌≤◌, List, [], ◌∷◌, ◌++◌, length, take, get_or, map, flat_map, sym, ◌∙◌, ap}
 use Rattle.std.specs.List.{fold}
 use Rattle.std.proofs.lemmas.List.{take_more, take_all, append-nil, map-append}
 use Rattle.std.proofs.lemmas.List.Sums.{fold_more}
 use Rattle.std.proofs.lemmas.Grind.{flat_map-append}
 use Rattle.css_selectors.specs.declared.selector.Simple.{Simple}
 use Rattle.css_selectors.specs.declared.selector.Tail.{Tail}
-use Rattle.css_parser.specs.declared.pieces.Form.{Form, roll-Form, out-Form}
+use Rattle.css_parser.specs.declared.pieces.Form.{Form}
 use Rattle.css_parser.specs.declared.pieces.Form.TheOpen as open_
 use Rattle.css_parser.specs.declared.pieces.Form.TheViews as views
 use Rattle.css_parser.specs.declared.pieces.Form.TheVariants as form

@@ -1,6 +1,6 @@
 -- The grammar of choices has no depth.
-use Rattle.std.proofs.Common.{◌≡◌, ℕ, zero, suc, ◌+◌, ◌<◌, ◌≤◌, Bool, true, false, cond, List, [], ◌∷◌, length, refl, sym, ◌∙◌, ap, subst, arith}
-use Rattle.std.specs.Prelude.{◌==◌, Option, Some, None}
+use Rattle.std.proofs.Common.{◌≡◌, ℕ, zero, suc, ◌+◌, ◌≤◌, Bool, true, false, cond, List, [], ◌∷◌, length, refl, sym, ◌∙◌, ap, arith}
+use Rattle.std.specs.Prelude.{Option, Some, None}
 use Rattle.css_lexer.specs.declared.tokens.CssKind.TheVariants as kind
 use Rattle.css_lexer.specs.declared.tokens.CssToken.{CssToken}
 use Rattle.css_parser.specs.declared.pieces.Word.{Word}
@@ -13,7 +13,7 @@ use Rattle.css_parser.specs.declared.pieces.InnersRead.{InnersRead}
 use Rattle.css_parser.specs.declared.pieces.ElementRead.{ElementRead}
 use Rattle.css_parser.specs.Places.{stands, skip}
 use Rattle.css_parser.specs.Simples.{element, piece_at}
-use Rattle.css_parser.specs.Choices.{word_at, one_read, choice_read, deep_read, deep, deep_by, deep_with, simple_by, simple_with, Reader, forms_by, forms_from, inner_read, some_read, inner_with, front, inner_at, inners_by, inners_from, inners}
+use Rattle.css_parser.specs.Choices.{word_at, one_read, choice_read, deep_read, deep, deep_with, simple_by, simple_with, Reader, forms_by, forms_from, some_read, inner_with, front, inner_at, inners_by, inners_from, inners}
 use Rattle.css_parser.specs.Reading.{EndsForm, EndsElement, EndsInner}
 use Rattle.css_parser.specs.Refusals.{is_empty}
 use Rattle.css_parser.specs.Laws.{end_of, IsReadAlike, KeepsEnds}
@@ -107,7 +107,7 @@ module _ (text : List ℕ) (ts : List CssToken) (f g : Reader) (from : ℕ) (sou
           let one : r.end ≡ q.end = cc in
           by_end (inners_from text ts f m) r
           ∙ ap (cond (stands kind.CloseRound ts j) (Some (j + 1)))
-            (same_if (stands kind.Comma ts j) _ _ None (λ c. let l = stands_within ts j 19 (omega arith) c in go (j + 1) (omega (arith, skip_order ts i, skip_order ts r.end)) (omega arith)))
+          (same_if (stands kind.Comma ts j) _ _ None (λ c. let l = stands_within ts j 19 (omega arith) c in go (j + 1) (omega (arith, skip_order ts i, skip_order ts r.end)) (omega arith)))
           ∙ ap (goes_on (inners_from text ts g m)) one
           ∙ sym (by_end (inners_from text ts g m) q)
 

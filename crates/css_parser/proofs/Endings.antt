@@ -5,8 +5,6 @@ use Rattle.std.proofs.lemmas.List.Sums.{prefix_len-le-length}
 use borrow.Author.Tests.{ltb-true}
 use Rattle.css_selectors.specs.declared.selector.Nth.{Nth}
 use Rattle.css_selectors.specs.declared.selector.Op.{Op}
-use Rattle.css_selectors.specs.declared.selector.Link.{Link}
-use Rattle.css_selectors.specs.declared.selector.Link.TheVariants as link
 use Rattle.css_lexer.specs.declared.tokens.CssKind.TheVariants as kind
 use Rattle.css_lexer.specs.declared.tokens.CssToken.{CssToken}
 use Rattle.css_parser.specs.declared.nth.Line.{Line}
@@ -17,7 +15,7 @@ use Rattle.css_parser.specs.declared.pieces.LinkRead.{LinkRead}
 use Rattle.css_parser.specs.Places.{code_at, stands, skip, is_name, is_word, is_space, text_at}
 use Rattle.css_parser.specs.Names.{nth_called}
 use Rattle.css_parser.specs.Simples as spec
-use Rattle.css_parser.specs.Grammar.{linked, combinator}
+use Rattle.css_parser.specs.Grammar.{combinator}
 use Rattle.css_parser.specs.Reading.{IsBehind, EndsElement, Ends, EndsLink}
 use Rattle.css_parser.proofs.PlaceLemmas.{code_within, skip_order}
 

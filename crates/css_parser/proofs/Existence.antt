@@ -1,12 +1,12 @@
 -- Of all tokens there is a list, or there is none. Each text is a list or has a fault.
-use Rattle.std.proofs.Common.{◌≡◌, ℕ, zero, suc, ◌+◌, ◌<◌, ◌≤◌, Bool, true, false, List, [], ◌∷◌, ◌++◌, length, refl, sym, ◌∙◌, ap, subst, arith, inl, inr, ◌⊎◌}
+use Rattle.std.proofs.Common.{◌≡◌, ℕ, zero, suc, ◌+◌, ◌<◌, ◌≤◌, Bool, true, false, List, [], ◌∷◌, ◌++◌, length, refl, sym, ◌∙◌, subst, arith, inl, inr, ◌⊎◌}
 use Rattle.std.specs.Prelude.{Option, Some, None}
 use Rattle.std.proofs.lemmas.Bool.{cases_lt}
 use Rattle.css_selectors.specs.declared.selector.Link.{Link}
 use Rattle.css_selectors.specs.declared.selector.Link.TheVariants as link
 use Rattle.css_lexer.specs.declared.tokens.CssKind.TheVariants as kind
 use Rattle.css_lexer.specs.declared.tokens.CssToken.{CssToken}
-use Rattle.css_lexer.specs.Tokens.{Lexes, Stops, most_bytes}
+use Rattle.css_lexer.specs.Tokens.{Lexes, most_bytes}
 use Rattle.css_lexer.proofs.Lexing.{lexes_or_stops}
 use Rattle.css_selectors.specs.declared.selector.SelectorList.{SelectorList}
 use Rattle.text_base.specs.declared.reasons.SelectorFault.{SelectorFault}

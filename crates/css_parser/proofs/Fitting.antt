@@ -1,5 +1,5 @@
 -- What simple selectors and pseudo-elements are where they are read, and where they end.
-use Rattle.std.proofs.Common.{◌∙◌, ap, ◌≡◌, ℕ, ◌+◌, ◌<◌, ◌≤◌, Bool, true, false, ◌&&◌, ◌||◌, cond, List, [], length, refl, sym, subst, arith, zero, suc, pos, neg_ℤ}
+use Rattle.std.proofs.Common.{◌≡◌, ℕ, ◌+◌, ◌<◌, ◌≤◌, Bool, true, false, ◌&&◌, ◌||◌, cond, List, [], length, refl, sym, subst, arith, zero, suc, pos, neg_ℤ}
 use Rattle.std.specs.Prelude.{◌==◌, Option, Some, None, nat_lt, nat_abs, codes}
 use Rattle.std.proofs.lemmas.Bool.Decides.{nat_tests}
 use Rattle.css_lexer.proofs.EscapeLemmas.{cases_if}

@@ -3,7 +3,7 @@ use Rattle.std.proofs.Common.{◌≡◌, ℕ, ◌+◌, ◌<◌, ◌≤◌, Bool,
 use Rattle.std.proofs.lemmas.Bool.Decides.{nat_tests}
 use Rattle.std.proofs.lemmas.Bool.{cases_lt}
 use Rattle.std.proofs.Common.{inl, inr}
-use Rattle.std.specs.Prelude.{◌==◌, ◌≢◌, ◌↔◌, IsTrue, Option, Some, None, nat_lt}
+use Rattle.std.specs.Prelude.{◌==◌, ◌≢◌, Option, Some, None, nat_lt}
 use Rattle.css_selectors.specs.declared.selector.Link.{Link}
 use Rattle.css_selectors.specs.declared.selector.Link.TheVariants as link
 use Rattle.css_lexer.specs.declared.tokens.CssKind.TheVariants as kind
@@ -17,7 +17,7 @@ use Rattle.css_parser.specs.declared.pieces.CompoundRead.{CompoundRead}
 use Rattle.css_parser.specs.declared.pieces.LinkRead.{LinkRead}
 use Rattle.css_parser.specs.Places.{code_at, stands, skip, is_name}
 use Rattle.css_parser.specs.Simples.{past_prefix, name_at, element, piece_at}
-use Rattle.css_parser.specs.Choices.{simple, form_read, simple_by, deep_by, word_at}
+use Rattle.css_parser.specs.Choices.{simple, form_read, simple_by, word_at}
 use Rattle.css_parser.specs.Grammar.{Simples, HasElement, past_element, IsCompound, linked, combinator, Further, IsSelector}
 use Rattle.css_parser.specs.Reading.{NoCompound, NoFurther, IsEnd, IsFormsRead, IsWholeCompound, IsLinked}
 use Rattle.css_parser.proofs.PlaceLemmas.{skip_stop, code_end}

@@ -1,10 +1,9 @@
 -- What is read with so many choices in each other and is not refused is well made with so many, and has no more simple
 -- selectors than tokens.
-use Rattle.std.proofs.Common.{◌≡◌, ℕ, zero, suc, ◌+◌, ◌<◌, ◌≤◌, Bool, true, false, ◌&&◌, cond, List, [], ◌∷◌, ◌++◌, length, map, flat_map, refl, sym, ◌∙◌, ap, subst, arith}
-use Rattle.std.specs.Prelude.{◌==◌, ◌≢◌, Option, Some, None, All, sum_by}
+use Rattle.std.proofs.Common.{◌≡◌, ℕ, zero, suc, ◌+◌, ◌<◌, ◌≤◌, Bool, true, false, ◌&&◌, List, [], ◌∷◌, length, map, flat_map, refl, sym, ◌∙◌, ap, subst, arith}
+use Rattle.std.specs.Prelude.{Option, Some, None, All, sum_by}
 use Rattle.std.proofs.lemmas.List.Elements.{All-nil, All-cons, All-append}
 use Rattle.std.proofs.lemmas.List.Sums.{sum_by-cons, sum_by-append}
-use Rattle.css_lexer.specs.declared.tokens.CssKind.TheVariants as kind
 use Rattle.css_lexer.specs.declared.tokens.CssToken.{CssToken}
 use Rattle.text_base.specs.declared.reasons.SelectorFault.{SelectorFault}
 use Rattle.text_base.specs.declared.reasons.SelectorFault.TheVariants as fault
@@ -22,40 +21,29 @@ use Rattle.css_selectors.specs.declared.selector.Test.TheOpen as test_open
 use Rattle.css_selectors.specs.declared.selector.Test.TheVariants as test
 use Rattle.css_selectors.specs.declared.selector.Test.TheViews as test_views
 use Rattle.css_selectors.specs.declared.selector.Weight.{Weight}
-use Rattle.css_selectors.specs.declared.selector.Weight.TheVariants as weight
 use Rattle.css_selectors.specs.Sizes as z
 use Rattle.css_selectors.specs.Sizes.{test_size, compound_size, simple_size}
 use Rattle.css_selectors.specs.WellMade.{FitsTest, FitsKind, FitsPseudo, FitsSimple, Nowhere, innermost}
-use Rattle.css_selectors.proofs.Equations.{size_of_any, size_of_compound, size_of_simple}
+use Rattle.css_selectors.proofs.Equations.{size_of_compound, size_of_simple}
 use Rattle.css_parser.specs.declared.pieces.Plain.{Plain}
 use Rattle.css_parser.specs.declared.pieces.Plain.TheVariants as plain
 use Rattle.css_parser.specs.declared.pieces.Piece.{Piece}
 use Rattle.css_parser.specs.declared.pieces.Piece.TheVariants as piece
 use Rattle.css_parser.specs.declared.pieces.Read.{Read}
-use Rattle.css_parser.specs.declared.pieces.Word.{Word}
-use Rattle.css_parser.specs.declared.pieces.Word.TheVariants as word
 use Rattle.css_parser.specs.declared.pieces.Form.{Form, out-Form, roll-Form}
 use Rattle.css_parser.specs.declared.pieces.Form.TheOpen as open_
 use Rattle.css_parser.specs.declared.pieces.Form.TheVariants as form
 use Rattle.css_parser.specs.declared.pieces.Form.TheViews as views
 use Rattle.css_parser.specs.declared.pieces.FormRead.{FormRead}
-use Rattle.css_parser.specs.declared.pieces.FormsRead.{FormsRead}
-use Rattle.css_parser.specs.declared.pieces.Inner.{Inner, out-Inner, roll-Inner}
-use Rattle.css_parser.specs.declared.pieces.InnerRead.{InnerRead}
-use Rattle.css_parser.specs.declared.pieces.InnersRead.{InnersRead}
-use Rattle.css_parser.specs.declared.pieces.ElementRead.{ElementRead}
-use Rattle.css_parser.specs.Places.{stands, skip}
-use Rattle.css_parser.specs.Simples.{element, piece_at}
-use Rattle.css_parser.specs.Choices.{word_at, one_read, choice_read, deep_read, deep, simple_by, simple_with, Reader, form_read, Forms, forms_by, forms_from, inner_read, some_read, inner_with, front, inner_at, inners_by, inners_from, inners}
-use Rattle.css_parser.specs.Reading.{IsBehind, EndsForm, EndsElement, EndsInner}
+use Rattle.css_parser.specs.declared.pieces.Inner.{Inner, out-Inner}
+use Rattle.css_parser.specs.Choices.{one_read, Reader, Forms, forms_by, forms_from}
+use Rattle.css_parser.specs.Reading.{IsBehind, EndsForm}
 use Rattle.css_parser.specs.Refusals.{or_else, if_refused, is_none, is_empty, is_of_type, needs_element, is_only_of_type, piece_refusal, form_refusal, inner_refusal, forms_refusal, inners_refusal}
-use Rattle.css_parser.specs.Values.{FormValue, InnerValue, test_of, simple_of, piece_value, alone_in, alone_of, any, negation, choice_value, form_value, inner_value, form_simples, compound_of}
-use Rattle.css_parser.proofs.PlaceLemmas.{skip_order, skip_within, stands_within}
-use Rattle.css_parser.proofs.Endings.{element_ends}
-use Rattle.css_parser.proofs.RefusalLemmas.{one_refusal, choice_refusal, deep_refusal, inner_is}
-use Rattle.css_parser.proofs.Fitting.{FitsPlain, FitsPiece, Good, piece_good}
-use Rattle.css_parser.proofs.ChoiceLemmas.{IsSound, by_ends, at_piece, deep_is, word_inside, inner_ends}
-use Rattle.css_parser.proofs.ValueLemmas.{one_value, choice_simples, choice_alone, deep_simples, deep_alone, compound_is, alone_is, any_is}
+use Rattle.css_parser.specs.Values.{FormValue, test_of, simple_of, piece_value, alone_in, alone_of, form_value, inner_value, form_simples, compound_of}
+use Rattle.css_parser.proofs.RefusalLemmas.{one_refusal, deep_refusal, inner_is}
+use Rattle.css_parser.proofs.Fitting.{FitsPlain, FitsPiece, Good}
+use Rattle.css_parser.proofs.ChoiceLemmas.{IsSound}
+use Rattle.css_parser.proofs.ValueLemmas.{one_value, choice_alone, deep_simples, deep_alone, compound_is, alone_is}
 
 -- nothing is refused of either
 pub record Neither (o p : Option SelectorFault) : Type 0 where

@@ -1,5 +1,5 @@
 -- The values of forms and inners, one level at a time.
-use Rattle.std.proofs.Common.{◌≡◌, ℕ, ◌+◌, ◌<◌, Bool, true, false, List, [], ◌∷◌, ◌++◌, length, get_or, map, flat_map, refl, sym, ◌∙◌, ap, arith}
+use Rattle.std.proofs.Common.{◌≡◌, ℕ, true, false, List, [], ◌∷◌, ◌++◌, length, get_or, map, flat_map, refl, sym, ◌∙◌, ap, arith}
 use Rattle.std.specs.Prelude.{◌==◌, Option, Some, None}
 use Rattle.std.proofs.lemmas.Bool.Decides.{nat_tests}
 use Rattle.css_selectors.specs.declared.selector.Compound as choice
@@ -11,7 +11,7 @@ use Rattle.css_selectors.specs.declared.selector.Simple.{Simple}
 use Rattle.css_parser.specs.declared.pieces.Piece.{Piece}
 use Rattle.css_parser.specs.declared.pieces.Word.{Word}
 use Rattle.css_parser.specs.declared.pieces.Word.TheVariants as word
-use Rattle.css_parser.specs.declared.pieces.Form.{Form, roll-Form}
+use Rattle.css_parser.specs.declared.pieces.Form.{Form}
 use Rattle.css_parser.specs.declared.pieces.Form.TheOpen as open_
 use Rattle.css_parser.specs.declared.pieces.Form.TheFolds.{fold-roll-Form, fold_out-Inner}
 use Rattle.css_parser.specs.declared.pieces.Form.TheVariants as form

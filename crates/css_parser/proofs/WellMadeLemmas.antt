@@ -1,5 +1,5 @@
 -- Every accepted list is well made.
-use Rattle.std.proofs.Common.{◌≡◌, ℕ, ◌+◌, ◌*◌, ◌<◌, ◌≤◌, Bool, true, false, ◌&&◌, List, [], ◌∷◌, length, map, flat_map, refl, sym, ◌∙◌, ap, subst, arith}
+use Rattle.std.proofs.Common.{◌≡◌, ℕ, ◌+◌, ◌*◌, ◌<◌, ◌≤◌, Bool, true, false, List, [], ◌∷◌, length, map, flat_map, refl, sym, ◌∙◌, ap, subst, arith}
 use Rattle.std.specs.Prelude.{◌==◌, ◌≢◌, Option, Some, None, All, sum_by, nat_lt}
 use Rattle.std.proofs.lemmas.List.Elements.{All-nil, All-cons}
 use Rattle.std.proofs.lemmas.List.Sums.{sum_by-cons}
@@ -23,7 +23,6 @@ use Rattle.css_selectors.specs.WellMade as made
 use Rattle.css_selectors.specs.WellMade.{WellMade}
 use Rattle.css_selectors.proofs.Equations.{size_of_part}
 use Rattle.css_parser.specs.declared.pieces.Form.{Form}
-use Rattle.css_parser.specs.declared.pieces.FormRead.{FormRead}
 use Rattle.css_parser.specs.declared.pieces.Compound.{Compound}
 use Rattle.css_parser.specs.declared.pieces.ElementRead.{ElementRead}
 use Rattle.css_parser.specs.declared.pieces.LinkRead.{LinkRead}
@@ -39,7 +38,7 @@ use Rattle.css_parser.specs.Selecting.{Accepts}
 use Rattle.css_parser.proofs.PlaceLemmas.{skip_order, skip_within, stands_within}
 use Rattle.css_parser.proofs.Fitting.{element_behind}
 use Rattle.css_parser.proofs.ChoiceLemmas.{simple_ends}
-use Rattle.css_parser.proofs.ValueFits.{GivesForms, Neither, neither, forms_give}
+use Rattle.css_parser.proofs.ValueFits.{GivesForms, neither, forms_give}
 use Rattle.css_parser.proofs.ChoiceFits.{by_gives}
 
 -- what is seen of a part

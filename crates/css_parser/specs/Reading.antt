@@ -20,7 +20,7 @@ use Rattle.css_lexer.specs.declared.tokens.CssKind.TheVariants as kind
 use Rattle.css_parser.specs.Places.{stands}
 use Rattle.text_base.specs.declared.reasons.SelectorFault.{SelectorFault}
 use Rattle.text_base.specs.declared.reasons.SelectorFault.TheVariants as fault
-use Rattle.css_parser.specs.Grammar.{Simples, IsCompound, IsSelector, From, Reads, combinator}
+use Rattle.css_parser.specs.Grammar.{IsCompound, IsSelector, From, Reads, combinator}
 
 -- no compound is read at i
 abbrev pub NoCompound : List ℕ → List CssToken → ℕ → Type 0

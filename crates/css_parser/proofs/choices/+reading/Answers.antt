@@ -1,6 +1,5 @@
-use Rattle.std.proofs.Common.{◌≡◌, ℕ, ◌<◌, ◌≤◌, List, length, refl, sym, ◌∙◌, ap, subst, arith}
-use Rattle.std.specs.Prelude.{Option, Some, None}
-use Rattle.css_parser.specs.declared.pieces.InnerRead.{InnerRead}
+use Rattle.std.proofs.Common.{sym, ◌∙◌, subst, arith}
+use Rattle.std.specs.Prelude.{Some}
 use Rattle.css_parser.specs.Reading.{EndsForm, EndsInner}
 use Rattle.css_parser.proofs.ChoiceLemmas as lemma
 use Rattle.css_parser.proofs.choices.+reading.Goals as goal

@@ -1,4 +1,4 @@
-use Rattle.std.proofs.Common.{◌+◌, ◌*◌, ◌-◌, ◌≤◌, length, ℕ}
+use Rattle.std.proofs.Common.{◌+◌, ◌*◌, ◌-◌, ◌≤◌, length}
 use Rattle.css_parser.specs.Choices.{Forms, simple_by}
 use Rattle.css_parser.proofs.ChoiceLemmas.{IsInnersUpTo}
 use Rattle.css_parser.proofs.choices.+reading.Given as goal
