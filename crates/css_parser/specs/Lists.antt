@@ -20,11 +20,16 @@ part_of c = roll-Part (record { link = c.link; element = c.element; simples = fl
 -- the tail after a piece, or after a form, where `old` was the tail before it
 abbrev pub piece_tail : Tail → Piece → Tail
 piece_tail old (piece.Tail t) = t
-piece_tail old _ = old
+piece_tail old (piece.Plain x) = old
+piece_tail old piece.Prefixed = old
+piece_tail old piece.Unknown = old
+piece_tail old (piece.Large position) = old
+piece_tail old piece.Strange = old
 
 abbrev pub form_tail : Tail → open_.Form-F Form Inner → Tail
 form_tail old (open_.One p) = piece_tail old p
-form_tail old _ = old
+form_tail old (open_.Choice w xs) = old
+form_tail old open_.Deep = old
 
 abbrev pub tail_by : Tail → Form → Tail
 tail_by old x = form_tail old (out-Form x)

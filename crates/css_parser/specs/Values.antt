@@ -17,6 +17,7 @@ use Rattle.css_parser.specs.declared.pieces.Form.TheOpen as open_
 use Rattle.css_parser.specs.declared.pieces.Form.TheFolds as folds
 use Rattle.css_parser.specs.declared.pieces.Inner.{Inner}
 
+-- the test that it asks
 abbrev pub test_of : Plain → Test
 test_of (plain.Id x) = test.Id x
 test_of (plain.Class x) = test.Class x
@@ -40,10 +41,19 @@ pub record InnerValue : Type 0 where
   pub compound : choice.Compound
   pub alone : Option Test
 
+-- a pseudo-element, and what is refused, is no simple selector
+abbrev pub no_value : FormValue
+no_value = record { simples = []; alone = None }
+
 abbrev pub piece_value : Piece → FormValue
 piece_value (piece.Plain x) = record { simples = simple_of false (test_of x) ∷ []; alone = Some (test_of x) }
-piece_value _ = record { simples = []; alone = None }
+piece_value piece.Prefixed = no_value
+piece_value piece.Unknown = no_value
+piece_value (piece.Large position) = no_value
+piece_value (piece.Tail t) = no_value
+piece_value piece.Strange = no_value
 
+-- what an inner is alone, where an element stands in it or not and these forms do
 abbrev pub alone_in : Bool → Option (List ℕ) → List FormValue → Option Test
 alone_in true element [] = Some (test.Element element)
 alone_in true element (x ∷ xs) = None
@@ -60,7 +70,7 @@ alone_of (x ∷ y ∷ xs) = None
 abbrev pub any : Weight → List InnerValue → Test
 any w xs = test.Any w (map (λ x. x.compound) xs)
 
--- a negation of something alone negates that, and any other negates the choice
+-- A negation of one that is alone negates that, and any other negates the choice.
 abbrev pub negation : Option Test → List InnerValue → Simple
 negation (Some t) xs = simple_of true t
 negation None xs = simple_of true (any weight.Most xs)
@@ -73,7 +83,7 @@ choice_value word.Not xs = negation (alone_of xs) xs
 abbrev pub form_step : open_.Form-F FormValue InnerValue → FormValue
 form_step (open_.One p) = piece_value p
 form_step (open_.Choice w xs) = record { simples = choice_value w xs ∷ []; alone = None }
-form_step open_.Deep = record { simples = []; alone = None }
+form_step open_.Deep = no_value
 
 abbrev pub inner_step : open_.Inner-F FormValue InnerValue → InnerValue
 inner_step x = record {
