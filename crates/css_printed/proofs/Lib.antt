@@ -10,6 +10,7 @@ pub mod LiteralRuns
 pub mod Means
 pub mod MeansAll
 pub mod MeansAttributes
+pub mod MeansChoices
 pub mod MeansLanguage
 pub mod MeansLast
 pub mod MeansLower
@@ -28,6 +29,7 @@ pub mod Paths
 pub mod PathsKept
 pub mod Pieces
 pub mod PlainNames
+pub mod PrintedAt
 pub mod ReadBack
 pub mod Readings
 pub mod ReadsAttributes
@@ -38,6 +40,7 @@ pub mod ReadsPseudo
 pub mod ReadsSelectors
 pub mod ReadsTests
 pub mod Rooms
+pub mod SpellChoices
 pub mod SpellConditions
 pub mod SpellFixed
 pub mod SpellLists

@@ -6,8 +6,8 @@ use Rattle.doc_model.specs.declared.Kind.TheVariants.{Root, Element, Attribute, 
 use Rattle.doc_model.specs.declared.Axis.TheVariants as axis
 use Rattle.doc_model.specs.Document.{Document, row, is_element, is_attribute, is_element_kind, is_attribute_kind, is_parent, below}
 use Rattle.doc_model.specs.Axes.{on_axis, is_principal}
-use Rattle.css_meaning.specs.declared.selector.Link.{Link}
-use Rattle.css_meaning.specs.declared.selector.Link.TheVariants as link
+use Rattle.css_selectors.specs.declared.selector.Link.{Link}
+use Rattle.css_selectors.specs.declared.selector.Link.TheVariants as link
 use Rattle.css_meaning.specs.Matching.{linked}
 use Rattle.css_meaning.proofs.ListTests as lists
 use Rattle.css_printed.specs.Expression.{axis_of}

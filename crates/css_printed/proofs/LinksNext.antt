@@ -10,7 +10,7 @@ use Rattle.doc_model.specs.declared.Axis.TheVariants as axis
 use Rattle.doc_model.specs.declared.NodeTest.TheVariants as node
 use Rattle.doc_model.specs.Document.{Document, row, rows, is_element}
 use Rattle.doc_model.specs.Axes.{on_axis}
-use Rattle.css_meaning.specs.declared.selector.Link.TheVariants as link
+use Rattle.css_selectors.specs.declared.selector.Link.TheVariants as link
 use Rattle.css_meaning.specs.Siblings.{is_sibling, is_earlier}
 use Rattle.css_meaning.specs.Matching.{linked}
 use Rattle.css_meaning.proofs.ListTests as lists

@@ -4,22 +4,20 @@ use Rattle.std.specs.Prelude.{◌≢◌}
 use Rattle.std.specs.List.{list_any, AllByRecursion}
 use Rattle.std.proofs.lemmas.List.{map-append}
 use Rattle.std.proofs.lemmas.Bool.{and_parts, eqb-true}
-use Rattle.doc_model.specs.declared.Axis.{Axis}
-use Rattle.doc_model.specs.declared.NodeTest.{NodeTest}
 use Rattle.doc_model.specs.declared.Kind.{Kind}
 use Rattle.doc_model.specs.declared.Kind.TheVariants.{Root, Element, Attribute, Text, Comment}
 use Rattle.doc_model.specs.declared.Axis.TheVariants as axis
 use Rattle.doc_model.specs.declared.NodeTest.TheVariants as node
 use Rattle.doc_model.specs.Document.{Document, row, rows, is_element, is_attribute, is_text, is_attribute_kind, is_text_kind, is_parent, below}
-use Rattle.doc_model.specs.Axes.{on_axis, passes}
-use Rattle.css_meaning.specs.declared.selector.Dialect.{Dialect}
-use Rattle.css_meaning.specs.declared.selector.Link.{Link}
-use Rattle.css_meaning.specs.declared.selector.Link.TheVariants as link
-use Rattle.css_meaning.specs.declared.selector.Part.{Part}
-use Rattle.css_meaning.specs.declared.selector.Selector.{Selector}
-use Rattle.css_meaning.specs.declared.selector.SelectorList.{SelectorList}
-use Rattle.css_meaning.specs.declared.selector.Tail.{Tail}
-use Rattle.css_meaning.specs.declared.selector.Tail.TheVariants as tail
+use Rattle.css_selectors.specs.declared.selector.Dialect.{Dialect}
+use Rattle.css_selectors.specs.declared.selector.Link.{Link}
+use Rattle.css_selectors.specs.declared.selector.Link.TheVariants as link
+use Rattle.css_selectors.specs.declared.selector.Part.{Part, out-Part}
+use Rattle.css_selectors.specs.declared.selector.Selector.{Selector}
+use Rattle.css_selectors.specs.declared.selector.SelectorList.{SelectorList}
+use Rattle.css_selectors.specs.declared.selector.Tail.{Tail}
+use Rattle.css_selectors.specs.declared.selector.Tail.TheVariants as tail
+use Rattle.css_meaning.proofs.HoldsAt.{held_element}
 use Rattle.css_meaning.specs.Matching.{holds, linked, leads, reaches_by, gives, answered, answers}
 use Rattle.css_meaning.proofs.ListTests as lists
 use Rattle.xpath_values.specs.declared.value.Value.TheVariants.{Nodes}
@@ -36,26 +34,16 @@ use Rattle.css_printed.specs.Predicates.{step, attribute_step}
 use Rattle.css_printed.proofs.Links.{near}
 use Rattle.css_printed.proofs.Paths as paths
 use Rattle.css_printed.proofs.Paths.{chain, path_append, path_chain, path_rows, one_step, in_rows_in}
-use Rattle.css_printed.proofs.PathsKept.{Keep, keep_none, step_has}
+use Rattle.css_printed.proofs.PathsKept.{keep_none, step_has}
 use Rattle.css_printed.proofs.MeansNames.{attribute_walk}
 
 abbrev pub any_row : ℕ → Bool
 any_row x = true
 
-regroup : (on near e f q h : Bool) → (f ≡ true → e ≡ true) → (e ≡ true → on ≡ near) → (f && q) ≡ h → (q && (on && f)) ≡ (near && h)
-regroup on near e true q h to_e same holds = ap (λ b. q && b) (lists.and_true on) ∙ and_swap q on ∙ ap (λ b. b && q) (same (to_e refl)) ∙ ap (λ b. near && b) holds
-  where
-    and_swap : (a b : Bool) → (a && b) ≡ (b && a)
-    and_swap true true = refl
-    and_swap true false = refl
-    and_swap false true = refl
-    and_swap false false = refl
-regroup on near e false q h to_e same holds = ap (λ b. q && b) (lists.and_false on) ∙ lists.and_false q ∙ sym (lists.and_false near) ∙ ap (λ b. near && b) holds
-
 module _ (doc : Document) (d : Dialect) where
   -- from the row of the part before to that of this part
   abbrev pub related : Part → ℕ → ℕ → Bool
-  related p x y = near doc p.link x y && holds doc d p y
+  related p x y = near doc (out-Part p).link x y && holds doc d p y
 
   abbrev pub walk : Part → Walk
   walk p = walk_of doc (part_step d p)
@@ -63,32 +51,20 @@ module _ (doc : Document) (d : Dialect) where
   abbrev pub StepGives : (ℕ → Bool) → Part → Type 0
   StepGives kind p = paths.Gives doc walk related kind p
 
-  -- the step of a part, of its axis, its node test and its predicates
-  pub step_gives : (kind : ℕ → Bool) (p : Part) (a : Axis) (t : NodeTest) (es : List Expr) (q : ℕ → Bool)
-      → part_step d p ≡ step a t es
-      → ((y : ℕ) → passes doc a t y ≡ true → is_element doc y ≡ true)
-      → Keep doc (passes doc a t) es q
-      → ((y : ℕ) → (passes doc a t y && q y) ≡ holds doc d p y)
-      → ((x y : ℕ) → kind x ≡ true → is_element doc y ≡ true → on_axis doc a x y ≡ near doc p.link x y)
-      → StepGives kind p
-  step_gives kind p a t es q made element keep fits same x y is among =
-      ap (λ s. has y (walk_of doc s x)) made ∙ step_has doc (passes doc a t) a t es q x y (λ z h i. i) keep among
-      ∙ regroup (on_axis doc a x y) (near doc p.link x y) (is_element doc y) (passes doc a t y) (q y) (holds doc d p y) (element y) (same x y is) (fits y)
-
   -- ---- parts
 
   related_element : (p : Part) → paths.Stays doc walk related (is_element doc) p
-  related_element p x y h = (and_parts (is_element doc y) _ (and_parts (near doc p.link x y) _ h).1).0
+  related_element p x y h = held_element doc d p y (and_parts (near doc (out-Part p).link x y) _ h).1
 
   -- a further part, and its step
   pub record Further (p : Part) : Type 0 where
-    pub link : p.link ≢ link.First
+    pub link : (out-Part p).link ≢ link.First
     pub step : StepGives (is_element doc) p
 
   -- the first part has the link First and no other has, and all steps give what their parts say
   abbrev pub AllGive : List Part → Type 0
   AllGive [] = ⊥
-  AllGive (p ∷ ps) = (p.link ≡ link.First) × StepGives any_row p × AllByRecursion Further ps
+  AllGive (p ∷ ps) = ((out-Part p).link ≡ link.First) × StepGives any_row p × AllByRecursion Further ps
 
   near_linked : (l : Link) (x y : ℕ) → l ≢ link.First → near doc l x y ≡ linked doc l x y
   near_linked link.First x y h = absurd (h refl)
@@ -101,14 +77,14 @@ module _ (doc : Document) (d : Dialect) where
   unfolding leads
   chain_leads [] x r h = refl
   chain_leads (p ∷ ps) x r h = lists.any_same _ _ (λ y.
-      lists.and_assoc (near doc p.link x y) (holds doc d p y) (chain doc related ps y r)
-      ∙ ap (λ b. b && (holds doc d p y && chain doc related ps y r)) (near_linked p.link x y h.0.link)
-      ∙ ap (λ b. linked doc p.link x y && (holds doc d p y && b)) (chain_leads ps y r h.1)) (rows doc)
+      lists.and_assoc (near doc (out-Part p).link x y) (holds doc d p y) (chain doc related ps y r)
+      ∙ ap (λ b. b && (holds doc d p y && chain doc related ps y r)) (near_linked (out-Part p).link x y h.0.link)
+      ∙ ap (λ b. linked doc (out-Part p).link x y && (holds doc d p y && b)) (chain_leads ps y r h.1)) (rows doc)
 
-  chain_reaches : (p : Part) (ps : List Part) (c r : ℕ) → p.link ≡ link.First → AllByRecursion Further ps → chain doc related (p ∷ ps) c r ≡ reaches_by doc d (p ∷ ps) c r
+  chain_reaches : (p : Part) (ps : List Part) (c r : ℕ) → (out-Part p).link ≡ link.First → AllByRecursion Further ps → chain doc related (p ∷ ps) c r ≡ reaches_by doc d (p ∷ ps) c r
   unfolding reaches_by
   chain_reaches p ps c r first h = lists.any_same _ _ (λ y.
-      lists.and_assoc (near doc p.link c y) (holds doc d p y) (chain doc related ps y r)
+      lists.and_assoc (near doc (out-Part p).link c y) (holds doc d p y) (chain doc related ps y r)
       ∙ ap (λ l. near doc l c y && (holds doc d p y && chain doc related ps y r)) first
       ∙ ap (λ b. ((eqb y c) || below doc c y) && (holds doc d p y && b)) (chain_leads ps y r h)) (rows doc)
 
@@ -194,9 +170,9 @@ module _ (doc : Document) (d : Dialect) where
   unfolding leads
   leads_element [] x e element h = subst (λ v. is_element doc v ≡ true) (eqb-true x e h) element
   leads_element (p ∷ ps) x e element h =
-      let w : (y : ℕ) × (has y (rows doc) ≡ true) × ((linked doc p.link x y && (holds doc d p y && leads doc d ps y e)) ≡ true) = paths.found_in _ (rows doc) h in
-      let more : (holds doc d p w.0 ≡ true) × (leads doc d ps w.0 e ≡ true) = and_parts _ _ (and_parts (linked doc p.link x w.0) _ w.2).1 in
-      leads_element ps w.0 e (and_parts (is_element doc w.0) _ more.0).0 more.1
+      let w : (y : ℕ) × (has y (rows doc) ≡ true) × ((linked doc (out-Part p).link x y && (holds doc d p y && leads doc d ps y e)) ≡ true) = paths.found_in _ (rows doc) h in
+      let more : (holds doc d p w.0 ≡ true) × (leads doc d ps w.0 e ≡ true) = and_parts _ _ (and_parts (linked doc (out-Part p).link x w.0) _ w.2).1 in
+      leads_element ps w.0 e (held_element doc d p w.0 more.0) more.1
 
   -- what is reached is an element
   pub reaches_element : (parts : List Part) (c e : ℕ) → reaches_by doc d parts c e ≡ true → is_element doc e ≡ true
@@ -205,7 +181,7 @@ module _ (doc : Document) (d : Dialect) where
   reaches_element (p ∷ ps) c e h =
       let w : (y : ℕ) × (has y (rows doc) ≡ true) × ((((eqb y c) || below doc c y) && (holds doc d p y && leads doc d ps y e)) ≡ true) = paths.found_in _ (rows doc) h in
       let more : (holds doc d p w.0 ≡ true) × (leads doc d ps w.0 e ≡ true) = and_parts _ _ (and_parts ((eqb w.0 c) || below doc c w.0) _ w.2).1 in
-      leads_element ps w.0 e (and_parts (is_element doc w.0) _ more.0).0 more.1
+      leads_element ps w.0 e (held_element doc d p w.0 more.0) more.1
 
   abbrev pub SelectorGives : Selector → Type 0
   SelectorGives s = AllGive s.parts

@@ -1,30 +1,40 @@
 -- Every test, and the theorem: the expression of a well made list denotes what the list answers.
-use Rattle.std.proofs.Common.{◌≡◌, refl, ℕ, Bool, true, ◌&&◌, List, [], ◌∷◌, ap, sym, ◌∙◌, Option}
-use Rattle.std.specs.Prelude.{codes}
+use Rattle.std.proofs.Common.{◌≡◌, refl, ℕ, zero, suc, Bool, true, false, ◌&&◌, not, cond, List, [], ◌∷◌, map, ap, sym, subst, ◌∙◌, Option}
+use Rattle.std.specs.Prelude.{codes, All}
 use Rattle.std.specs.List.{list_any, AllByRecursion}
 use Rattle.std.specs.Str.{bytes_eq}
 use Rattle.std.proofs.lemmas.List.Elements.{recursion_from_All}
+use Rattle.doc_model.specs.declared.Axis.TheVariants as axis
 use Rattle.doc_model.specs.Document.{Document, rows, IsDocument}
-use Rattle.css_meaning.specs.declared.selector.Dialect.{Dialect}
-use Rattle.css_meaning.specs.declared.selector.Dialect.TheVariants.{Generic, Html}
-use Rattle.css_meaning.specs.declared.selector.Op.{Op}
-use Rattle.css_meaning.specs.declared.selector.Op.TheVariants as op
-use Rattle.css_meaning.specs.declared.selector.Pseudo.{Pseudo}
-use Rattle.css_meaning.specs.declared.selector.Pseudo.TheVariants as pseudo
-use Rattle.css_meaning.specs.declared.selector.Test.{Test}
-use Rattle.css_meaning.specs.declared.selector.Test.TheVariants as test
+use Rattle.css_selectors.specs.declared.selector.Dialect.{Dialect}
+use Rattle.css_selectors.specs.declared.selector.Dialect.TheVariants.{Generic, Html}
+use Rattle.css_selectors.specs.declared.selector.Op.{Op}
+use Rattle.css_selectors.specs.declared.selector.Op.TheVariants as op
+use Rattle.css_selectors.specs.declared.selector.Pseudo.{Pseudo}
+use Rattle.css_selectors.specs.declared.selector.Pseudo.TheVariants as pseudo
+use Rattle.css_selectors.specs.declared.selector.Compound.{Compound, out-Compound}
+use Rattle.css_selectors.specs.declared.selector.Test.{Test, out-Test, roll-Test}
+use Rattle.css_selectors.specs.declared.selector.Test.TheOpen as open_
+use Rattle.css_selectors.specs.declared.selector.Test.TheViews as views
+use Rattle.css_selectors.specs.Words.{is_word_op, test_asks, compound_asks, part_asks, simple_asks}
+use Rattle.css_selectors.proofs.Mapped.{any_map}
+use Rattle.css_selectors.proofs.WordsAt as words_at
 use Rattle.css_meaning.specs.Names.{folded}
 use Rattle.css_meaning.specs.Attributes.{has_value, attribute_holds}
-use Rattle.css_meaning.specs.Limits.{Countable, NoFormFeed, is_word_op, is_word_test}
-use Rattle.css_meaning.specs.WellMade.{FitsTest, FitsPseudo, IsPart, IsSelector, WellMade}
+use Rattle.css_meaning.specs.Limits.{Countable, NoFormFeed}
+use Rattle.css_selectors.specs.WellMade.{FitsTest, FitsSimple, FitsPseudo, Nowhere, innermost, IsPart, IsSelector, WellMade}
+use Rattle.css_meaning.specs.Holding.{test_holds, compound_holds, simple_holds}
+use Rattle.css_meaning.specs.Names.{has_name}
+use Rattle.css_meaning.specs.Simples.{pseudo_holds}
 use Rattle.css_meaning.specs.Matching.{matches_by, gives, answered, answers}
+use Rattle.css_meaning.proofs.HoldsAt as holds_at
 use Rattle.css_meaning.proofs.ListTests as lists
 use Rattle.css_meaning.proofs.Finding.{row_within}
 use Rattle.css_meaning.proofs.Backwards.{matches_law}
-use Rattle.css_meaning.specs.declared.selector.Part.{Part}
-use Rattle.css_meaning.specs.declared.selector.Selector.{Selector}
-use Rattle.css_meaning.specs.declared.selector.SelectorList.{SelectorList}
-use Rattle.css_meaning.specs.declared.selector.Simple.{Simple}
+use Rattle.css_selectors.specs.declared.selector.Part.{Part, out-Part}
+use Rattle.css_selectors.specs.declared.selector.Selector.{Selector}
+use Rattle.css_selectors.specs.declared.selector.SelectorList.{SelectorList}
+use Rattle.css_selectors.specs.declared.selector.Simple.{Simple}
 use Rattle.std.proofs.lemmas.Bool.{or_left, or_right}
 use Rattle.xpath_values.specs.declared.value.Value.TheVariants.{Nodes}
 use Rattle.xpath_parser.specs.Functions.{Context}
@@ -33,18 +43,23 @@ use Rattle.css_printed.specs.Expression.{expression}
 use Rattle.css_printed.specs.Promise.{IsWithin, alone, matched}
 use Rattle.css_printed.proofs.MeansLanguage.{lang_is}
 use Rattle.css_printed.proofs.Means.{SelectorGives, denote_list}
-use Rattle.css_printed.specs.Predicates.{attribute, plain_attribute, op_predicate}
-use Rattle.css_printed.proofs.PathsKept.{Keep}
+use Rattle.xpath_parser.specs.declared.expression.Expr.{Expr}
+use Rattle.css_printed.specs.Predicates.{attribute, plain_attribute, elements, equals, literal, not_one, op_predicate, pseudo_predicates}
+use Rattle.css_printed.specs.TestPredicates as q
+use Rattle.css_printed.specs.TestPredicates.{Asked, test_asked, compound_expression}
+use Rattle.css_printed.proofs.PrintedAt.{Layer, asked_layer, asked_at, asked_at_simple, asked_at_any}
+use Rattle.css_printed.proofs.MeansChoices.{SimpleKeeps, simples_keep, Tells, keep_tells, keep_not, tells_choice, compound_tells}
+use Rattle.css_printed.proofs.PathsKept.{Keep, keep_same}
 use Rattle.css_printed.proofs.MeansNames.{at_attribute, at_plain_attribute}
 use Rattle.css_printed.proofs.MeansValues.{is_never}
 use Rattle.css_printed.proofs.MeansParts.{is_named_element, element_row, PartKeeps, all_give}
 use Rattle.css_printed.proofs.MeansAttributes.{exists_is, equals_is, dash_is, prefix_is, substring_is, suffix_is, word_is}
 use Rattle.css_printed.proofs.MeansPseudo.{empty_is, root_is, contains_is, link_is, checked_is, enabled_is, disabled_is, in_html_is}
 use Rattle.css_printed.proofs.MeansSiblings.{position_keeps, only_child, only_of_type}
-use Rattle.css_printed.proofs.MeansTests.{TestKeeps, one_keeps, element_test, simples_keep}
+use Rattle.css_printed.proofs.MeansTests.{one_keeps, element_test, not_keeps, not_named}
 
 module _ (doc : Document) (is : IsDocument doc) (c : Countable doc) (d : Dialect) (el : Option (List ℕ)) where
-  pub pseudo_keeps : (p : Pseudo) → FitsPseudo el p → TestKeeps doc d el (test.Pseudo p)
+  pub pseudo_keeps : (p : Pseudo) → FitsPseudo el p → Keep doc (is_named_element doc d el) (pseudo_predicates d el p) (pseudo_holds doc d p)
   pseudo_keeps pseudo.OnlyChild h = only_child doc is d el c
   pseudo_keeps pseudo.OnlyOfType h = only_of_type doc is d el c h
   pseudo_keeps pseudo.Empty h = one_keeps doc d el _ _ (λ x i. empty_is doc x)
@@ -60,7 +75,7 @@ module _ (doc : Document) (is : IsDocument doc) (c : Countable doc) (d : Dialect
   id_name Generic = refl
   id_name Html = refl
 
-  pub id_keeps : (v : List ℕ) → TestKeeps doc d el (test.Id v)
+  pub id_keeps : (v : List ℕ) → Keep doc (is_named_element doc d el) (equals (plain_attribute (codes "id")) (literal v) ∷ []) (attribute_holds doc d (codes "id") op.Equals v)
   id_keeps v = one_keeps doc d el _ _ (λ x i at size.
       equals_is doc (plain_attribute (codes "id")) (codes "id") (at_plain_attribute doc (codes "id")) v x at size
       ∙ ap (λ n. has_value doc x n (λ t. bytes_eq t v)) (sym (id_name d)))
@@ -77,39 +92,117 @@ module _ (doc : Document) (is : IsDocument doc) (c : Countable doc) (d : Dialect
   op_keeps name op.Suffix v calm = one_keeps doc d el _ _ (λ x i. suffix_is doc (attribute d name) (folded d name) (at_attribute doc d name) is c v x)
   op_keeps name op.Substring v calm = one_keeps doc d el _ _ (λ x i. substring_is doc (attribute d name) (folded d name) (at_attribute doc d name) is v x)
 
-  -- ---- all tests
-
-  pub test_keeps : (negated : Bool) (t : Test) → FitsTest el negated t → (is_word_test t ≡ true → NoFormFeed doc) → TestKeeps doc d el t
-  test_keeps negated (test.Element n) fits calm = element_test doc d el n
-  test_keeps negated (test.Id v) fits calm = id_keeps v
-  test_keeps negated (test.Class v) fits calm = op_keeps (codes "class") op.Word v (λ w. calm refl)
-  test_keeps negated (test.Attr name o v) fits calm = op_keeps name o v calm
-  test_keeps negated (test.Nth kind a b) fits calm = position_keeps doc is d el c kind fits.2 a b fits.0 fits.1
-  test_keeps negated (test.Pseudo p) fits calm = pseudo_keeps p fits
-  test_keeps negated (test.Contains v) fits calm = one_keeps doc d el _ _ (λ x i. contains_is doc v x (element_row doc x i))
-  test_keeps negated (test.Lang v) fits calm = one_keeps doc d el _ _ (λ x i. lang_is doc is d v x)
-
-  tests_keep : (ss : List Simple) → AllByRecursion (λ x. FitsTest el x.negated x.test) ss → (list_any (λ x. is_word_test x.test) ss ≡ true → NoFormFeed doc) → AllByRecursion (λ s. TestKeeps doc d el s.test) ss
-  tests_keep [] fits calm = tt
-  tests_keep (s ∷ ss) fits calm =
-      (test_keeps s.negated s.test fits.0 (λ w. calm (or_left (is_word_test s.test) _ w)), tests_keep ss fits.1 (λ w. calm (or_right (is_word_test s.test) _ w)))
+  -- ---- all tests, at every depth
 
 module _ (doc : Document) (is : IsDocument doc) (c : Countable doc) (d : Dialect) where
-  part_keeps : (p : Part) → IsPart p → (list_any (λ x. is_word_test x.test) p.simples ≡ true → NoFormFeed doc) → PartKeeps doc d p
-  part_keeps p fits calm = simples_keep doc d p.element p.simples (tests_keep doc is c d p.element p.simples (recursion_from_All (λ (x : Simple). FitsTest p.element x.negated x.test) p.simples fits) calm)
+  -- the predicates keep where something holds, and the negated one where it does not
+  record Kept (around : Option (List ℕ)) (a : Asked) (p : ℕ → Bool) : Type 0 where
+    plainly : Keep doc (is_named_element doc d around) a.brackets p
+    negated : Keep doc (is_named_element doc d around) (not_one a.inside ∷ []) (λ y. not (p y))
 
-  parts_keep : (ps : List Part) → AllByRecursion IsPart ps → (list_any (λ p. list_any (λ x. is_word_test x.test) p.simples) ps ≡ true → NoFormFeed doc) → AllByRecursion (PartKeeps doc d) ps
+  of_itself : (around : Option (List ℕ)) (ps : List Expr) (p : ℕ → Bool) → Keep doc (is_named_element doc d around) ps p → Kept around (q.by_itself ps) p
+  of_itself around ps p h = record { plainly = h; negated = not_keeps doc d around ps p h }
+
+  of_name : (around n : Option (List ℕ)) → Kept around (q.alone (elements d axis.OwnSelf n)) (has_name doc d n)
+  of_name around n = record { plainly = element_test doc d around n; negated = not_named doc d around n }
+
+  of_tells : (around : Option (List ℕ)) (a : Expr) (p : ℕ → Bool) → ((y : ℕ) → is_named_element doc d around y ≡ true → Tells doc a y (p y)) → Kept around (q.alone a) p
+  of_tells around a p h = record { plainly = keep_tells doc (is_named_element doc d around) a p h; negated = keep_not doc (is_named_element doc d around) a p h }
+
+  abbrev TestKeeps : Option (List ℕ) → Test → Type 0
+  TestKeeps around t = Kept around (test_asked d t around) (test_holds doc d t)
+
+  made : (around : Option (List ℕ)) (l : Layer) (p : ℕ → Bool) → test_holds doc d (roll-Test l) ≡ p → Kept around (asked_layer d l around) p → TestKeeps around (roll-Test l)
+  made around l p e h =
+      subst (λ a. Kept around a (test_holds doc d (roll-Test l))) (sym (ap (λ f. f around) (asked_at d l))) (subst (λ v. Kept around (asked_layer d l around) v) (sym e) h)
+
+  -- the simples of a compound or a part
+  all_of : (Fits : Simple → Type 0) (around : Option (List ℕ)) → ((s : Simple) → (simple_asks s ≡ true → NoFormFeed doc) → Fits s → SimpleKeeps doc d around s)
+      → (ss : List Simple) → (list_any simple_asks ss ≡ true → NoFormFeed doc) → AllByRecursion Fits ss → AllByRecursion (SimpleKeeps doc d around) ss
+  all_of Fits around ih [] calm k = tt
+  all_of Fits around ih (s ∷ ss) calm k =
+      (ih s (λ w. calm (or_left (simple_asks s) _ w)) k.0, all_of Fits around ih ss (λ w. calm (or_right (simple_asks s) _ w)) k.1)
+
+  compounds_tell : (Fits : Bool → Option (List ℕ) → Simple → Type 0) (inside : Bool) (around : Option (List ℕ))
+      → ((a : Option (List ℕ)) (s : Simple) → (simple_asks s ≡ true → NoFormFeed doc) → Fits inside a s → SimpleKeeps doc d a s)
+      → (list : List Compound) → (list_any compound_asks list ≡ true → NoFormFeed doc) → AllByRecursion (λ v. All (Fits inside (innermost around (out-Compound v).element)) (out-Compound v).simples) list
+      → (y : ℕ) → is_named_element doc d around y ≡ true → AllByRecursion (λ v. Tells doc (compound_expression d v around) y (compound_holds doc d v y)) list
+  compounds_tell Fits inside around ih [] calm h y named = tt
+  compounds_tell Fits inside around ih (v ∷ vs) calm h y named =
+      let inner : Option (List ℕ) = innermost around (out-Compound v).element in
+      (compound_tells doc d around v (all_of (Fits inside inner) inner (ih inner) (out-Compound v).simples (λ w. calm (or_left (compound_asks v) _ (words_at.at_compound v ∙ w)))
+      (recursion_from_All (Fits inside inner) (out-Compound v).simples h.0)) y named,
+      compounds_tell Fits inside around ih vs (λ w. calm (or_right (compound_asks v) _ w)) h.1 y named)
+
+  layer_keeps : (Fits : Bool → Option (List ℕ) → Simple → Type 0)
+      → ((inside : Bool) (a : Option (List ℕ)) (s : Simple) → (simple_asks s ≡ true → NoFormFeed doc) → Fits inside a s → SimpleKeeps doc d a s)
+      → (room inside negated : Bool) (around : Option (List ℕ)) (l : Layer) → (test_asks (roll-Test l) ≡ true → NoFormFeed doc) → FitsTest Fits room inside around negated l → TestKeeps around (roll-Test l)
+  layer_keeps Fits ih room inside negated around (open_.Element n) calm fits = made around (open_.Element n) _ (holds_at.at_layer doc d (open_.Element n)) (of_name around n)
+  layer_keeps Fits ih room inside negated around (open_.Id v) calm fits =
+      made around (open_.Id v) _ (holds_at.at_layer doc d (open_.Id v)) (of_itself around _ _ (id_keeps doc is c d around v))
+  layer_keeps Fits ih room inside negated around (open_.Class v) calm fits =
+      made around (open_.Class v) _ (holds_at.at_layer doc d (open_.Class v)) (of_itself around _ _ (op_keeps doc is c d around (codes "class") op.Word v (λ w. calm (words_at.at_layer (open_.Class v)))))
+  layer_keeps Fits ih room inside negated around (open_.Attr name o v) calm fits =
+      made around (open_.Attr name o v) _ (holds_at.at_layer doc d (open_.Attr name o v)) (of_itself around _ _ (op_keeps doc is c d around name o v (λ w. calm (words_at.at_layer (open_.Attr name o v) ∙ w))))
+  layer_keeps Fits ih room inside negated around (open_.Nth kind a b) calm fits =
+      made around (open_.Nth kind a b) _ (holds_at.at_layer doc d (open_.Nth kind a b)) (of_itself around _ _ (position_keeps doc is d around c kind fits.2 a b fits.0 fits.1))
+  layer_keeps Fits ih room inside negated around (open_.Pseudo p) calm fits =
+      made around (open_.Pseudo p) _ (holds_at.at_layer doc d (open_.Pseudo p)) (of_itself around _ _ (pseudo_keeps doc is c d around p fits))
+  layer_keeps Fits ih room inside negated around (open_.Contains v) calm fits =
+      made around (open_.Contains v) _ (holds_at.at_layer doc d (open_.Contains v)) (of_itself around _ _ (one_keeps doc d around _ _ (λ x i. contains_is doc v x (element_row doc x i))))
+  layer_keeps Fits ih room inside negated around (open_.Lang v) calm fits =
+      made around (open_.Lang v) _ (holds_at.at_layer doc d (open_.Lang v)) (of_itself around _ _ (one_keeps doc d around _ _ (λ x i. lang_is doc is d v x)))
+  layer_keeps Fits ih room inside negated around (open_.Any w list) calm fits =
+      let p : ℕ → Bool = λ y. list_any (λ h. h y) (map (compound_holds doc d) list) in
+      let all : Kept around (q.alone (q.choice (map (λ v. compound_expression d v around) list))) p = of_tells around (q.choice (map (λ v. compound_expression d v around) list)) p (λ y named.
+      tells_choice doc (λ v. compound_expression d v around) (compound_holds doc d) list y
+      (compounds_tell Fits inside around (λ a s k h. ih inside a s k h) list (λ h. calm (words_at.at_layer (open_.Any w list) ∙ any_map (λ b. b) compound_asks list ∙ h))
+      (recursion_from_All (λ v. All (Fits inside (innermost around (out-Compound v).element)) (out-Compound v).simples) list fits.2) y named)) in
+      made around (open_.Any w list) p (holds_at.at_layer doc d (open_.Any w list)) (subst (λ a. Kept around a p) (sym (asked_at_any d w list around)) all)
+  layer_keeps Fits ih room inside negated around (open_.Has list) calm fits = absurd fits
+
+  signed : (around : Option (List ℕ)) (s : Simple) (b : Bool) → s.negated ≡ b → TestKeeps around s.test → SimpleKeeps doc d around s
+  signed around s true e h =
+      subst (λ es. Keep doc (is_named_element doc d around) es (simple_holds doc d s)) (sym (asked_at_simple d s around ∙ ap (λ n. cond n (not_one (test_asked d s.test around).inside ∷ []) (test_asked d s.test around).brackets) e))
+      (keep_same doc (is_named_element doc d around) (not_one (test_asked d s.test around).inside ∷ []) (λ y. not (test_holds doc d s.test y)) (simple_holds doc d s)
+      (λ y k. sym (holds_at.at_simple doc d s y ∙ ap (λ n. cond n (not (test_holds doc d s.test y)) (test_holds doc d s.test y)) e)) h.negated)
+  signed around s false e h =
+      subst (λ es. Keep doc (is_named_element doc d around) es (simple_holds doc d s)) (sym (asked_at_simple d s around ∙ ap (λ n. cond n (not_one (test_asked d s.test around).inside ∷ []) (test_asked d s.test around).brackets) e))
+      (keep_same doc (is_named_element doc d around) (test_asked d s.test around).brackets (test_holds doc d s.test) (simple_holds doc d s)
+      (λ y k. sym (holds_at.at_simple doc d s y ∙ ap (λ n. cond n (not (test_holds doc d s.test y)) (test_holds doc d s.test y)) e)) h.plainly)
+
+  by_layer : (Fits : Bool → Option (List ℕ) → Simple → Type 0)
+      → ((inside : Bool) (a : Option (List ℕ)) (s : Simple) → (simple_asks s ≡ true → NoFormFeed doc) → Fits inside a s → SimpleKeeps doc d a s)
+      → (room inside : Bool) (around : Option (List ℕ)) (s : Simple) → (simple_asks s ≡ true → NoFormFeed doc) → FitsTest Fits room inside around s.negated (out-Test s.test) → SimpleKeeps doc d around s
+  by_layer Fits ih room inside around s calm fits =
+      signed around s s.negated refl (subst (TestKeeps around) (views.roll-out-Test s.test)
+      (layer_keeps Fits ih room inside s.negated around (out-Test s.test) (λ w. calm (words_at.at_simple s ∙ ap test_asks (sym (views.roll-out-Test s.test)) ∙ w)) fits))
+
+  -- the predicates of a well made simple keep, of the elements of the name around, those at which it holds
+  simple_keeps : (n : ℕ) (inside : Bool) (around : Option (List ℕ)) (s : Simple) → (simple_asks s ≡ true → NoFormFeed doc) → FitsSimple n inside around s → SimpleKeeps doc d around s
+  unfolding FitsSimple
+  simple_keeps zero inside around s calm fits = by_layer Nowhere (λ i a y k h. absurd h) false inside around s calm fits
+  simple_keeps (suc n) inside around s calm fits = by_layer (FitsSimple n) (λ i a y k h. simple_keeps n i a y k h) true inside around s calm fits
+
+  -- ---- parts and selectors
+
+  part_keeps : (p : Part) → IsPart p → (part_asks p ≡ true → NoFormFeed doc) → PartKeeps doc d p
+  part_keeps p fits calm =
+      simples_keep doc d (out-Part p).element (out-Part p).simples
+      (all_of (FitsSimple 8 false (out-Part p).element) (out-Part p).element (simple_keeps 8 false (out-Part p).element) (out-Part p).simples (λ w. calm (words_at.at_part p ∙ w))
+      (recursion_from_All (FitsSimple 8 false (out-Part p).element) (out-Part p).simples fits))
+
+  parts_keep : (ps : List Part) → AllByRecursion IsPart ps → (list_any part_asks ps ≡ true → NoFormFeed doc) → AllByRecursion (PartKeeps doc d) ps
   parts_keep [] fits calm = tt
-  parts_keep (p ∷ ps) fits calm = (part_keeps p fits.0 (λ w. calm (or_left _ _ w)), parts_keep ps fits.1 (λ w. calm (or_right (list_any (λ x. is_word_test x.test) p.simples) _ w)))
+  parts_keep (p ∷ ps) fits calm = (part_keeps p fits.0 (λ w. calm (or_left (part_asks p) _ w)), parts_keep ps fits.1 (λ w. calm (or_right (part_asks p) _ w)))
 
-  selector_gives : (s : Selector) → IsSelector s → (list_any (λ p. list_any (λ x. is_word_test x.test) p.simples) s.parts ≡ true → NoFormFeed doc) → SelectorGives doc d s
+  selector_gives : (s : Selector) → IsSelector s → (list_any part_asks s.parts ≡ true → NoFormFeed doc) → SelectorGives doc d s
   selector_gives s fits calm = all_give doc d s.parts fits.links (parts_keep s.parts (recursion_from_All IsPart s.parts fits.parts) calm)
 
-  selectors_give : (items : List Selector) → AllByRecursion IsSelector items → (list_any (λ s. list_any (λ p. list_any (λ x. is_word_test x.test) p.simples) s.parts) items ≡ true → NoFormFeed doc)
-      → AllByRecursion (SelectorGives doc d) items
+  selectors_give : (items : List Selector) → AllByRecursion IsSelector items → (list_any (λ s. list_any part_asks s.parts) items ≡ true → NoFormFeed doc) → AllByRecursion (SelectorGives doc d) items
   selectors_give [] fits calm = tt
   selectors_give (s ∷ items) fits calm =
-      (selector_gives s fits.0 (λ w. calm (or_left _ _ w)), selectors_give items fits.1 (λ w. calm (or_right (list_any (λ p. list_any (λ x. is_word_test x.test) p.simples) s.parts) _ w)))
+      (selector_gives s fits.0 (λ w. calm (or_left (list_any part_asks s.parts) _ w)), selectors_give items fits.1 (λ w. calm (or_right (list_any part_asks s.parts) _ w)))
 
 module _ (doc : Document) (d : Dialect) where
   matched_from : IsDocument doc → (items : List Selector) (r : ℕ)

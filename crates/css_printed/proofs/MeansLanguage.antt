@@ -10,8 +10,8 @@ use Rattle.text_base.specs.Strings.{starts_with}
 use Rattle.doc_model.specs.declared.Axis.TheVariants as axis
 use Rattle.doc_model.specs.declared.NodeTest.TheVariants as node
 use Rattle.doc_model.specs.Document.{Document, row, rows, is_element, is_attribute, is_element_kind, below, IsDocument}
-use Rattle.css_meaning.specs.declared.selector.Dialect.{Dialect}
-use Rattle.css_meaning.specs.declared.selector.Dialect.TheVariants.{Generic, Html}
+use Rattle.css_selectors.specs.declared.selector.Dialect.{Dialect}
+use Rattle.css_selectors.specs.declared.selector.Dialect.TheVariants.{Generic, Html}
 use Rattle.css_meaning.specs.Attributes.{is_attribute_of, has_value, has_attribute, lang_test}
 use Rattle.css_meaning.specs.Language.{lang_name, gives_language, lang_holds}
 use Rattle.css_meaning.proofs.ListTests as lists

@@ -10,7 +10,7 @@ use Rattle.doc_model.specs.declared.Axis.TheVariants as axis
 use Rattle.doc_model.specs.declared.NodeTest.TheVariants as node
 use Rattle.doc_model.specs.Document.{Document, row, rows, is_attribute, is_parent}
 use Rattle.doc_model.specs.Axes.{on_axis, passes, is_principal}
-use Rattle.css_meaning.specs.declared.selector.Dialect.{Dialect}
+use Rattle.css_selectors.specs.declared.selector.Dialect.{Dialect}
 use Rattle.css_meaning.specs.Matching.{folded, has_name}
 use Rattle.css_meaning.specs.Attributes.{is_attribute_of}
 use Rattle.css_meaning.proofs.ListTests as lists

@@ -17,7 +17,7 @@ use Rattle.xpath_parser.specs.declared.expression.Func.TheVariants as f
 use Rattle.xpath_parser.specs.declared.expression.Infix.TheVariants as infix_of
 use Rattle.xpath_parser.specs.Denote.{applied}
 use Rattle.css_meaning.specs.Nth.{is_nth}
-use Rattle.css_meaning.specs.WellMade.{IsSmall}
+use Rattle.css_selectors.specs.WellMade.{IsSmall}
 use Rattle.doc_model.specs.Document.{Document}
 use Rattle.css_printed.specs.Conditions.{Condition, never, exactly, at_least, at_most, every, conditions}
 use Rattle.css_printed.specs.Predicates.{number, count, joins, condition_predicate}

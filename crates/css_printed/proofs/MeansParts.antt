@@ -8,27 +8,40 @@ use Rattle.std.proofs.lemmas.List.{get_or_past}
 use Rattle.doc_model.specs.declared.Axis.TheVariants as axis
 use Rattle.doc_model.specs.Document.{Document, Row, no_row, rows, is_element, is_element_kind}
 use Rattle.doc_model.specs.Axes.{on_axis, passes}
-use Rattle.css_meaning.specs.declared.selector.Dialect.{Dialect}
-use Rattle.css_meaning.specs.declared.selector.Link.{Link}
-use Rattle.css_meaning.specs.declared.selector.Link.TheVariants as link
-use Rattle.css_meaning.specs.declared.selector.Part.{Part}
-use Rattle.css_meaning.specs.declared.selector.Simple.{Simple}
-use Rattle.css_meaning.specs.Matching.{has_name, simple_holds}
-use Rattle.css_meaning.specs.WellMade.{AreLinked}
+use Rattle.css_selectors.specs.declared.selector.Dialect.{Dialect}
+use Rattle.css_selectors.specs.declared.selector.Link.{Link}
+use Rattle.css_selectors.specs.declared.selector.Link.TheVariants as link
+use Rattle.css_selectors.specs.declared.selector.Part.{Part, out-Part}
+use Rattle.css_selectors.specs.declared.selector.Simple.{Simple}
+use Rattle.css_meaning.specs.Names.{has_name}
+use Rattle.css_meaning.specs.Holding.{simple_holds}
+use Rattle.css_meaning.proofs.HoldsAt.{at_part}
+use Rattle.css_selectors.specs.WellMade.{AreLinked}
 use Rattle.css_meaning.proofs.ListTests as lists
 use Rattle.css_meaning.proofs.Finding.{in_rows}
-use Rattle.xpath_parser.specs.Denote.{has}
-use Rattle.css_printed.specs.Expression.{axis_of, part_step, next_brackets}
-use Rattle.css_printed.specs.Predicates.{step, node_test, name_brackets, simple_predicates, elements}
+use Rattle.xpath_parser.specs.declared.expression.Expr.{Expr}
+use Rattle.xpath_parser.specs.Denote.{has, walk_of}
+use Rattle.css_printed.specs.Expression.{axis_of, link_test, link_brackets, next_brackets}
+use Rattle.css_printed.specs.Predicates.{step, node_test, name_brackets, elements}
+use Rattle.css_printed.specs.TestPredicates.{simple_predicates}
 use Rattle.css_printed.proofs.Links.{near, principal_by, axis_near, axis_descendant, axis_child, axis_later}
-use Rattle.css_printed.proofs.PathsKept.{Is, Keep, keep_none, keep_one, keep_then}
+use Rattle.css_printed.proofs.PathsKept.{Is, Keep, keep_none, keep_one, keep_then, step_has}
 use Rattle.css_printed.proofs.LinksNext.{next_has}
 use Rattle.css_printed.proofs.MeansValues.{is_nodes, any_kept}
 use Rattle.css_printed.proofs.MeansNames.{at_elements, element_kept, keep_element, passes_element, element_principal}
-use Rattle.css_printed.proofs.Means.{any_row, StepGives, step_gives, Further, AllGive}
+use Rattle.css_printed.proofs.Means.{any_row, StepGives, Further, AllGive}
 
-regrouped : (passes kept e n all : Bool) → (passes && kept) ≡ (e && n) → (passes && (kept && all)) ≡ (e && (n && all))
-regrouped passes kept e n all h = sym (lists.and_assoc passes kept all) ∙ ap (λ b. b && all) h ∙ lists.and_assoc e n all
+regrouped : (on l e f k q n : Bool) → (e ≡ true → on ≡ l) → (f ≡ true → e ≡ true) → (f && k) ≡ (e && n) → ((k && q) && (on && f)) ≡ (l && (e && (n && q)))
+regrouped on l true true k q n same to_e kept = ap (λ b. (b && q) && (on && true)) kept ∙ ap (λ b. (n && q) && b) (lists.and_true on ∙ same refl) ∙ turn (n && q) l
+  where
+    turn : (a b : Bool) → (a && b) ≡ (b && a)
+    turn true true = refl
+    turn true false = refl
+    turn false true = refl
+    turn false false = refl
+regrouped on l false true k q n same to_e kept = let no : false ≡ true = to_e refl in cc
+regrouped on l true false k q n same to_e kept = ap (λ b. (k && q) && b) (lists.and_false on) ∙ lists.and_false (k && q) ∙ sym (lists.and_false l) ∙ ap (λ b. l && (b && q)) kept
+regrouped on l false false k q n same to_e kept = ap (λ b. (k && q) && b) (lists.and_false on) ∙ lists.and_false (k && q) ∙ sym (lists.and_false l)
 
 -- an element is a row
 pub element_row : (doc : Document) (x : ℕ) → is_element doc x ≡ true → has x (rows doc) ≡ true
@@ -57,32 +70,31 @@ module _ (doc : Document) (d : Dialect) where
 
   -- the predicates of the simples keep, of the elements of the part's name, those at which all simples hold
   abbrev pub PartKeeps : Part → Type 0
-  PartKeeps p = Keep doc (is_named_element p.element) (flat_map (simple_predicates d p.element) p.simples) (all_hold p.simples)
+  PartKeeps p = Keep doc (is_named_element (out-Part p).element) (flat_map (λ s. simple_predicates d s (out-Part p).element) (out-Part p).simples) (all_hold (out-Part p).simples)
+
+  -- The step of such a link, such an element and such predicates gives, from each row of the kind, the elements that stand to it
+  -- as the link says, have the name and pass the test.
+  abbrev pub LinkGives : (ℕ → Bool) → Link → Option (List ℕ) → List Expr → (ℕ → Bool) → Type 0
+  LinkGives kind l el es q = (x y : ℕ) → kind x ≡ true → has y (rows doc) ≡ true
+      → has y (walk_of doc (step (axis_of l) (link_test d l el) (link_brackets d l el ++ es)) x) ≡ (near doc l x y && (is_element doc y && (has_name doc d el y && q y)))
 
   passes_by : (l : Link) (el : Option (List ℕ)) (y : ℕ) → (passes doc (axis_of l) (node_test d el) y && element_kept doc d el y) ≡ is_named_element el y
   passes_by l el y = passes_element doc (axis_of l) d el y ∙ ap (λ b. b && has_name doc d el y) (principal_by doc l y)
 
-  -- the axis of the link, the name, and the simples
-  by_axis : (kind : ℕ → Bool) (p : Part) (l : Link) → part_step d p ≡ step (axis_of l) (node_test d p.element) (name_brackets d p.element ++ flat_map (simple_predicates d p.element) p.simples)
-      → PartKeeps p → ((x y : ℕ) → kind x ≡ true → is_element doc y ≡ true → on_axis doc (axis_of l) x y ≡ near doc p.link x y) → StepGives doc d kind p
-  by_axis kind p l made keeps same =
-      step_gives doc d kind p (axis_of l) (node_test d p.element) (name_brackets d p.element ++ flat_map (simple_predicates d p.element) p.simples) (λ y. element_kept doc d p.element y && all_hold p.simples y) made
-      (λ y h. sym (principal_by doc l y) ∙ element_principal doc (axis_of l) d p.element y h)
-      (keep_then doc (passes doc (axis_of l) (node_test d p.element)) (is_named_element p.element) (name_brackets d p.element) (flat_map (simple_predicates d p.element) p.simples)
-      (element_kept doc d p.element) (all_hold p.simples) (keep_element doc (passes doc (axis_of l) (node_test d p.element)) d p.element) keeps
-      (λ x h i. sym (passes_by l p.element x) ∙ and_from _ _ h i))
-      (λ y. regrouped _ (element_kept doc d p.element y) _ (has_name doc d p.element y) (all_hold p.simples y) (passes_by l p.element y))
-      same
+  -- the axis of the link, the name, and the test
+  by_axis : (kind : ℕ → Bool) (l : Link) (el : Option (List ℕ)) (es : List Expr) (q : ℕ → Bool) → Keep doc (is_named_element el) es q
+      → ((x y : ℕ) → kind x ≡ true → is_element doc y ≡ true → on_axis doc (axis_of l) x y ≡ near doc l x y)
+      → (x y : ℕ) → kind x ≡ true → has y (rows doc) ≡ true
+      → has y (walk_of doc (step (axis_of l) (node_test d el) (name_brackets d el ++ es)) x) ≡ (near doc l x y && (is_element doc y && (has_name doc d el y && q y)))
+  by_axis kind l el es q keep same x y is among =
+      step_has doc (passes doc (axis_of l) (node_test d el)) (axis_of l) (node_test d el) (name_brackets d el ++ es) (λ z. element_kept doc d el z && q z) x y (λ z h i. i)
+      (keep_then doc (passes doc (axis_of l) (node_test d el)) (is_named_element el) (name_brackets d el) es (element_kept doc d el) q
+      (keep_element doc (passes doc (axis_of l) (node_test d el)) d el) keep (λ z h i. sym (passes_by l el z) ∙ and_from _ _ h i)) among
+      ∙ regrouped (on_axis doc (axis_of l) x y) (near doc l x y) (is_element doc y) (passes doc (axis_of l) (node_test d el) y) (element_kept doc d el y) (q y) (has_name doc d el y)
+      (same x y is) (λ h. sym (principal_by doc l y) ∙ element_principal doc (axis_of l) d el y h) (passes_by l el y)
 
-  first_step : (el : Option (List ℕ)) (ss : List Simple) → PartKeeps (record { link = link.First; element = el; simples = ss }) → StepGives doc d any_row (record { link = link.First; element = el; simples = ss })
-  first_step el ss h = by_axis any_row (record { link = link.First; element = el; simples = ss }) link.First refl h (λ x y is k. axis_near doc x y k)
-
-  further_step : (l : Link) (el : Option (List ℕ)) (ss : List Simple) → l ≢ link.First → l ≢ link.Next → PartKeeps (record { link = l; element = el; simples = ss }) → StepGives doc d (is_element doc) (record { link = l; element = el; simples = ss })
-  further_step link.First el ss f n h = absurd (f refl)
-  further_step link.Descendant el ss f n h = by_axis (is_element doc) (record { link = link.Descendant; element = el; simples = ss }) link.Descendant refl h (λ x y is k. axis_descendant doc x y k)
-  further_step link.Child el ss f n h = by_axis (is_element doc) (record { link = link.Child; element = el; simples = ss }) link.Child refl h (λ x y is k. axis_child doc x y k)
-  further_step link.Next el ss f n h = absurd (n refl)
-  further_step link.Later el ss f n h = by_axis (is_element doc) (record { link = link.Later; element = el; simples = ss }) link.Later refl h (λ x y is k. axis_later doc x y is k)
+  first_gives : (el : Option (List ℕ)) (es : List Expr) (q : ℕ → Bool) → Keep doc (is_named_element el) es q → LinkGives any_row link.First el es q
+  first_gives el es q keep = by_axis any_row link.First el es q keep (λ x y is k. axis_near doc x y k)
 
   -- ---- the nearest sibling
 
@@ -99,33 +111,42 @@ module _ (doc : Document) (d : Dialect) where
   nested : (e n all : Bool) → e ≡ true → (n && all) ≡ (e && (n && all))
   nested e n all h = ap (λ b. b && (n && all)) (sym h)
 
-  next_step : (el : Option (List ℕ)) (ss : List Simple) → PartKeeps (record { link = link.Next; element = el; simples = ss }) → StepGives doc d (is_element doc) (record { link = link.Next; element = el; simples = ss })
-  next_step el ss keeps x y is among =
-      next_has doc (next_brackets d el ++ flat_map (simple_predicates d el) ss) (λ z. has_name doc d el z && all_hold ss z) (λ z. is_element doc z && (has_name doc d el z && all_hold ss z)) x y
-      (keep_then doc (is_element doc) (is_named_element el) (next_brackets d el) (flat_map (simple_predicates d el) ss) (has_name doc d el) (all_hold ss) (keep_next el) keeps (λ z h i. and_from _ _ h i))
-      (λ z h. (and_parts (is_element doc z) _ h).0) (λ z h. nested (is_element doc z) (has_name doc d el z) (all_hold ss z) h) is among
+  next_gives : (el : Option (List ℕ)) (es : List Expr) (q : ℕ → Bool) → Keep doc (is_named_element el) es q → LinkGives (is_element doc) link.Next el es q
+  next_gives el es q keep x y is among =
+      next_has doc (next_brackets d el ++ es) (λ z. has_name doc d el z && q z) (λ z. is_element doc z && (has_name doc d el z && q z)) x y
+      (keep_then doc (is_element doc) (is_named_element el) (next_brackets d el) es (has_name doc d el) q (keep_next el) keep (λ z h i. and_from _ _ h i))
+      (λ z h. (and_parts (is_element doc z) _ h).0) (λ z h. nested (is_element doc z) (has_name doc d el z) (q z) h) is among
 
-  other_step : (l : Link) (el : Option (List ℕ)) (ss : List Simple) → l ≢ link.First → PartKeeps (record { link = l; element = el; simples = ss }) → StepGives doc d (is_element doc) (record { link = l; element = el; simples = ss })
-  other_step link.First el ss f h = absurd (f refl)
-  other_step link.Descendant el ss f h = further_step link.Descendant el ss f (λ e. cc) h
-  other_step link.Child el ss f h = further_step link.Child el ss f (λ e. cc) h
-  other_step link.Next el ss f h = next_step el ss h
-  other_step link.Later el ss f h = further_step link.Later el ss f (λ e. cc) h
+  pub further_gives : (l : Link) (el : Option (List ℕ)) (es : List Expr) (q : ℕ → Bool) → l ≢ link.First → Keep doc (is_named_element el) es q → LinkGives (is_element doc) l el es q
+  further_gives link.First el es q f keep = absurd (f refl)
+  further_gives link.Descendant el es q f keep = by_axis (is_element doc) link.Descendant el es q keep (λ x y is k. axis_descendant doc x y k)
+  further_gives link.Child el es q f keep = by_axis (is_element doc) link.Child el es q keep (λ x y is k. axis_child doc x y k)
+  further_gives link.Next el es q f keep = next_gives el es q keep
+  further_gives link.Later el es q f keep = by_axis (is_element doc) link.Later el es q keep (λ x y is k. axis_later doc x y is k)
 
-  pub further_part : (p : Part) → p.link ≢ link.First → PartKeeps p → Further doc d p
-  further_part p f h = record { link = f; step = other_step p.link p.element p.simples f h }
+  -- ---- parts
 
-  first_at : (l : Link) (el : Option (List ℕ)) (ss : List Simple) → l ≡ link.First → PartKeeps (record { link = l; element = el; simples = ss }) → StepGives doc d any_row (record { link = l; element = el; simples = ss })
-  first_at l el ss e h = subst (λ v. StepGives doc d any_row (record { link = v; element = el; simples = ss })) (sym e) (first_step el ss h)
+  part_gives : (kind : ℕ → Bool) (p : Part)
+      → LinkGives kind (out-Part p).link (out-Part p).element (flat_map (λ s. simple_predicates d s (out-Part p).element) (out-Part p).simples) (all_hold (out-Part p).simples) → StepGives doc d kind p
+  part_gives kind p h x y is among = h x y is among ∙ ap (λ b. near doc (out-Part p).link x y && b) (sym (at_part doc d p y))
 
-  pub first_part : (p : Part) → p.link ≡ link.First → PartKeeps p → StepGives doc d any_row p
-  first_part p e h = first_at p.link p.element p.simples e h
+  first_at : (l : Link) (el : Option (List ℕ)) (es : List Expr) (q : ℕ → Bool) → l ≡ link.First → Keep doc (is_named_element el) es q → LinkGives any_row l el es q
+  first_at l el es q e keep = subst (λ v. LinkGives any_row v el es q) (sym e) (first_gives el es q keep)
 
-  further_parts : (ps : List Part) → AllByRecursion (λ q. q.link ≢ link.First) ps → AllByRecursion PartKeeps ps → AllByRecursion (Further doc d) ps
+  first_part : (p : Part) → (out-Part p).link ≡ link.First → PartKeeps p → StepGives doc d any_row p
+  first_part p e h = part_gives any_row p (first_at (out-Part p).link (out-Part p).element (flat_map (λ s. simple_predicates d s (out-Part p).element) (out-Part p).simples) (all_hold (out-Part p).simples) e h)
+
+  further_part : (p : Part) → (out-Part p).link ≢ link.First → PartKeeps p → Further doc d p
+  further_part p f h = record {
+    link = f;
+    step = part_gives (is_element doc) p (further_gives (out-Part p).link (out-Part p).element (flat_map (λ s. simple_predicates d s (out-Part p).element) (out-Part p).simples) (all_hold (out-Part p).simples) f h);
+  }
+
+  further_parts : (ps : List Part) → AllByRecursion (λ q. (out-Part q).link ≢ link.First) ps → AllByRecursion PartKeeps ps → AllByRecursion (Further doc d) ps
   further_parts [] f h = tt
   further_parts (p ∷ ps) f h = (further_part p f.0 h.0, further_parts ps f.1 h.1)
 
   -- a selector of well linked parts whose simples are kept gives what its parts say
   pub all_give : (parts : List Part) → AreLinked parts → AllByRecursion PartKeeps parts → AllGive doc d parts
   all_give [] l h = l
-  all_give (p ∷ ps) l h = (l.0, first_part p l.0 h.0, further_parts ps (recursion_from_All (λ (q : Part). q.link ≢ link.First) ps l.1) h.1)
+  all_give (p ∷ ps) l h = (l.0, first_part p l.0 h.0, further_parts ps (recursion_from_All (λ (q : Part). (out-Part q).link ≢ link.First) ps l.1) h.1)

@@ -5,7 +5,7 @@ use Rattle.std.proofs.lemmas.Bool.{and_parts, and_from, eqb-true, eq-eqb, ltb-fa
 use Rattle.std.specs.Prelude.{ℤ, pos, negsuc, ◌-ℤ◌, nat_le}
 use Rattle.std.specs.List.{list_all, AllByRecursion}
 use Rattle.std.proofs.lemmas.Bool.Decides.{nat_tests}
-use Rattle.css_meaning.specs.WellMade.{IsSmall}
+use Rattle.css_selectors.specs.WellMade.{IsSmall}
 use Rattle.css_meaning.specs.Nth.{IsNth, is_nth}
 use Rattle.css_meaning.proofs.Positions.{nth_law}
 use Rattle.css_printed.specs.Conditions.{Condition, never, exactly, at_least, at_most, every, remainder, every_from, conditions}

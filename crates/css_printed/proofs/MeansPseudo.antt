@@ -11,8 +11,8 @@ use Rattle.doc_model.specs.declared.Axis.TheVariants as axis
 use Rattle.doc_model.specs.declared.NodeTest.TheVariants as node
 use Rattle.doc_model.specs.Document.{Document, Row, row, rows, is_element, is_text, is_attribute, is_element_kind, is_text_kind, is_attribute_kind, is_parent, IsDocument, IsRow}
 use Rattle.doc_model.specs.StringValue.{string_value}
-use Rattle.css_meaning.specs.declared.selector.Dialect.{Dialect}
-use Rattle.css_meaning.specs.declared.selector.Dialect.TheVariants.{Generic, Html}
+use Rattle.css_selectors.specs.declared.selector.Dialect.{Dialect}
+use Rattle.css_selectors.specs.declared.selector.Dialect.TheVariants.{Generic, Html}
 use Rattle.css_meaning.specs.Attributes.{is_attribute_of, has_value, has_attribute}
 use Rattle.css_meaning.specs.Simples.{is_empty_element, is_link, is_checked, is_control, is_enabled, is_disabled, is_one_of, in_html}
 use Rattle.css_meaning.proofs.ListTests as lists

@@ -8,14 +8,14 @@ use Rattle.doc_model.specs.declared.Axis.TheVariants as axis
 use Rattle.doc_model.specs.declared.NodeTest.TheVariants as node
 use Rattle.doc_model.specs.Document.{Document, row, rows, is_element, is_attribute, IsDocument}
 use Rattle.doc_model.specs.Axes.{are_siblings}
-use Rattle.css_meaning.specs.declared.selector.Dialect.{Dialect}
-use Rattle.css_meaning.specs.declared.selector.Nth.{Nth}
-use Rattle.css_meaning.specs.declared.selector.Nth.TheVariants as nth
+use Rattle.css_selectors.specs.declared.selector.Dialect.{Dialect}
+use Rattle.css_selectors.specs.declared.selector.Nth.{Nth}
+use Rattle.css_selectors.specs.declared.selector.Nth.TheVariants as nth
 use Rattle.css_meaning.specs.Names.{folded, has_name}
 use Rattle.css_meaning.specs.Siblings.{is_sibling, is_of_type, count_before, count_after, position, is_only}
 use Rattle.css_meaning.specs.Limits.{Countable}
 use Rattle.css_meaning.specs.Nth.{is_nth}
-use Rattle.css_meaning.specs.WellMade.{IsSmall, FitsKind}
+use Rattle.css_selectors.specs.WellMade.{IsSmall, FitsKind}
 use Rattle.css_meaning.proofs.ListTests as lists
 use Rattle.css_meaning.proofs.Values.{same_means}
 use Rattle.xpath_values.specs.declared.value.Value.TheVariants.{Nodes}

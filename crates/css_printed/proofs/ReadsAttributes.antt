@@ -3,8 +3,8 @@ use Rattle.std.proofs.Common.{subst, refl, append_assoc, ℕ, Bool, true, false,
 use Rattle.std.specs.List.{list_any}
 use Rattle.text_base.specs.Text.{is_space5}
 use Rattle.text_base.specs.Strings.{is_empty}
-use Rattle.css_meaning.specs.declared.selector.Op.{Op}
-use Rattle.css_meaning.specs.declared.selector.Op.TheVariants as op
+use Rattle.css_selectors.specs.declared.selector.Op.{Op}
+use Rattle.css_selectors.specs.declared.selector.Op.TheVariants as op
 use Rattle.xpath_parser.specs.declared.expression.Expr.{Expr}
 use Rattle.xpath_parser.specs.declared.expression.Expr.TheVariants as e
 use Rattle.xpath_parser.specs.declared.expression.Func.TheVariants as f

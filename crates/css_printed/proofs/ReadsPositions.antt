@@ -2,9 +2,9 @@
 use Rattle.std.proofs.Common.{refl, ℕ, List, [], ◌∷◌, Option}
 use Rattle.std.specs.Prelude.{ℤ}
 use Rattle.doc_model.specs.declared.Axis.TheVariants as axis
-use Rattle.css_meaning.specs.declared.selector.Dialect.{Dialect}
-use Rattle.css_meaning.specs.declared.selector.Nth.{Nth}
-use Rattle.css_meaning.specs.declared.selector.Nth.TheVariants as nth
+use Rattle.css_selectors.specs.declared.selector.Dialect.{Dialect}
+use Rattle.css_selectors.specs.declared.selector.Nth.{Nth}
+use Rattle.css_selectors.specs.declared.selector.Nth.TheVariants as nth
 use Rattle.xpath_parser.specs.declared.expression.Expr.{Expr}
 use Rattle.xpath_parser.specs.declared.expression.Func.TheVariants as f
 use Rattle.xpath_parser.specs.declared.term.Term.{Term}

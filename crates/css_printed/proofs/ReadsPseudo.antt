@@ -3,11 +3,11 @@ use Rattle.std.proofs.Common.{refl, ℕ, List, [], ◌∷◌, ◌++◌, map, Opt
 use Rattle.std.specs.Prelude.{pos}
 use Rattle.doc_model.specs.declared.Axis.TheVariants as axis
 use Rattle.doc_model.specs.declared.NodeTest.TheVariants as node
-use Rattle.css_meaning.specs.declared.selector.Dialect.{Dialect}
-use Rattle.css_meaning.specs.declared.selector.Dialect.TheVariants.{Generic, Html}
-use Rattle.css_meaning.specs.declared.selector.Nth.TheVariants as nth
-use Rattle.css_meaning.specs.declared.selector.Pseudo.{Pseudo}
-use Rattle.css_meaning.specs.declared.selector.Pseudo.TheVariants as pseudo
+use Rattle.css_selectors.specs.declared.selector.Dialect.{Dialect}
+use Rattle.css_selectors.specs.declared.selector.Dialect.TheVariants.{Generic, Html}
+use Rattle.css_selectors.specs.declared.selector.Nth.TheVariants as nth
+use Rattle.css_selectors.specs.declared.selector.Pseudo.{Pseudo}
+use Rattle.css_selectors.specs.declared.selector.Pseudo.TheVariants as pseudo
 use Rattle.xpath_parser.specs.declared.expression.Expr.{Expr}
 use Rattle.xpath_parser.specs.declared.expression.Expr.TheVariants as e
 use Rattle.xpath_parser.specs.declared.expression.Func.TheVariants as f

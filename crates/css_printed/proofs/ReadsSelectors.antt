@@ -3,15 +3,15 @@ use Rattle.std.proofs.Common.{◌≡◌, refl, sym, ap, subst, ◌<◌, ℕ, Lis
 use Rattle.std.specs.List.{AllByRecursion}
 use Rattle.std.proofs.lemmas.List.Elements.{recursion_from_All}
 use Rattle.doc_model.specs.declared.Axis.TheVariants as axis
-use Rattle.css_meaning.specs.declared.selector.Dialect.{Dialect}
-use Rattle.css_meaning.specs.declared.selector.Link.{Link}
-use Rattle.css_meaning.specs.declared.selector.Link.TheVariants as link
-use Rattle.css_meaning.specs.declared.selector.Part.{Part}
-use Rattle.css_meaning.specs.declared.selector.Selector.{Selector}
-use Rattle.css_meaning.specs.declared.selector.SelectorList.{SelectorList}
-use Rattle.css_meaning.specs.declared.selector.Tail.{Tail}
-use Rattle.css_meaning.specs.declared.selector.Tail.TheVariants as tail
-use Rattle.css_meaning.specs.WellMade.{WellMade, IsSelector, AreLinked}
+use Rattle.css_selectors.specs.declared.selector.Dialect.{Dialect}
+use Rattle.css_selectors.specs.declared.selector.Link.{Link}
+use Rattle.css_selectors.specs.declared.selector.Link.TheVariants as link
+use Rattle.css_selectors.specs.declared.selector.Part.{Part, out-Part}
+use Rattle.css_selectors.specs.declared.selector.Selector.{Selector}
+use Rattle.css_selectors.specs.declared.selector.SelectorList.{SelectorList}
+use Rattle.css_selectors.specs.declared.selector.Tail.{Tail}
+use Rattle.css_selectors.specs.declared.selector.Tail.TheVariants as tail
+use Rattle.css_selectors.specs.WellMade.{WellMade, IsSelector, IsPart, AreLinked}
 use Rattle.xpath_parser.specs.declared.expression.Expr.{Expr}
 use Rattle.xpath_parser.specs.declared.expression.Expr.TheVariants as e
 use Rattle.xpath_parser.specs.declared.expression.Start.TheVariants as start
@@ -21,11 +21,11 @@ use Rattle.xpath_parser.specs.declared.term.Term.TheVariants as t
 use Rattle.xpath_parser.specs.Grammar as g
 use Rattle.xpath_parser.specs.Grammar.{Reads, ReadsWhole, Operands}
 use Rattle.css_printed.specs.Expression.{part_step, link_test, link_brackets, axis_of, next_brackets, tail_steps, selector_expression, expression, united}
-use Rattle.css_printed.specs.Predicates.{step, simple_predicates}
+use Rattle.css_printed.specs.Predicates.{step}
 use Rattle.css_printed.proofs.Readings.{up, whole, to_5, to_8}
-use Rattle.css_printed.proofs.ReadsPieces.{Brackets, no_brackets, bracket, join, all_of, any_tested, text_tested, with, axis_step, child_step, number_reads}
+use Rattle.css_printed.proofs.ReadsPieces.{Brackets, no_brackets, bracket, join, any_tested, text_tested, with, axis_step, child_step, number_reads}
 use Rattle.css_printed.proofs.ReadsNames.{element_tested, elements_read, attribute_step_reads}
-use Rattle.css_printed.proofs.ReadsTests.{simple_reads}
+use Rattle.css_printed.proofs.ReadsTests.{part_simples_read}
 use Rattle.css_printed.proofs.TemplateTerms as p
 
 -- ---- parts
@@ -42,8 +42,8 @@ link_reads d link.Child el h = child_step (with (element_tested d el) h)
 link_reads d link.Next el h = axis_step axis.FollowingSibling (with (with any_tested (join (bracket (whole (number_reads 1))) (next_reads d el))) h)
 link_reads d link.Later el h = axis_step axis.FollowingSibling (with (element_tested d el) h)
 
-pub part_reads : (d : Dialect) (q : Part) → Reads (p.part_terms d q) (g.step (part_step d q))
-part_reads d q = link_reads d q.link q.element (all_of (p.simple_terms d q.element) (simple_predicates d q.element) (simple_reads d q.element) q.simples)
+pub part_reads : (d : Dialect) (q : Part) → IsPart q → Reads (p.part_terms d q) (g.step (part_step d q))
+part_reads d q h = link_reads d (out-Part q).link (out-Part q).element (part_simples_read d q h)
 
 -- ---- the steps of a selector
 
@@ -54,21 +54,21 @@ ending_reads d tail.Text r = g.steps_more r (g.steps_one (child_step text_tested
 ending_reads d (tail.Attr n) r = g.steps_more r (g.steps_one (attribute_step_reads d n)) refl
 
 -- a step, the parts and the tail behind it
-pub steps_read : (d : Dialect) (u : Tail) (ps : List Part) {a : List Term} {s : Step} → Reads a (g.step s)
+pub steps_read : (d : Dialect) (u : Tail) (ps : List Part) {a : List Term} {s : Step} → Reads a (g.step s) → AllByRecursion IsPart ps
     → Reads (a ++ (p.further_terms d ps ++ p.ending_terms d u)) (g.steps (s ∷ (map (part_step d) ps ++ tail_steps d u)))
-steps_read d u [] r = ending_reads d u r
-steps_read d u (q ∷ ps) {a} r =
-    g.steps_more r (steps_read d u ps (part_reads d q)) (ap (λ v. a ++ t.Slash ∷ v) (append_assoc (p.part_terms d q) (p.further_terms d ps) (p.ending_terms d u)))
+steps_read d u [] r h = ending_reads d u r
+steps_read d u (q ∷ ps) {a} r h =
+    g.steps_more r (steps_read d u ps (part_reads d q h.0) h.1) (ap (λ v. a ++ t.Slash ∷ v) (append_assoc (p.part_terms d q) (p.further_terms d ps) (p.ending_terms d u)))
 
-parts_read : (d : Dialect) (u : Tail) (ps : List Part) → AreLinked ps
+parts_read : (d : Dialect) (u : Tail) (ps : List Part) → AreLinked ps → AllByRecursion IsPart ps
     → Reads (p.parts_terms d ps ++ p.ending_terms d u) (g.at 0 (e.Path start.Here (map (part_step d) ps ++ tail_steps d u)))
-parts_read d u [] h = absurd h
-parts_read d u (q ∷ ps) h =
+parts_read d u [] l h = absurd l
+parts_read d u (q ∷ ps) l h =
     let P : List Term → Type 0 = λ ts. Reads ts (g.steps (part_step d q ∷ (map (part_step d) ps ++ tail_steps d u))) in
-    g.path_here (subst P (sym (append_assoc (p.part_terms d q) (p.further_terms d ps) (p.ending_terms d u))) (steps_read d u ps (part_reads d q)))
+    g.path_here (subst P (sym (append_assoc (p.part_terms d q) (p.further_terms d ps) (p.ending_terms d u))) (steps_read d u ps (part_reads d q h.0) h.1))
 
 pub selector_reads : (d : Dialect) (s : Selector) → IsSelector s → Reads (p.selector_terms d s) (g.at 0 (selector_expression d s))
-selector_reads d s h = parts_read d s.tail s.parts h.links
+selector_reads d s h = parts_read d s.tail s.parts h.links (recursion_from_All IsPart s.parts h.parts)
 
 -- ---- lists
 

@@ -4,10 +4,10 @@ use Rattle.std.specs.Prelude.{ℤ}
 use Rattle.std.specs.Fmt.{decimal}
 use Rattle.std.specs.List.{flat_map, AllByRecursion}
 use Rattle.std.specs.Str.{chars}
-use Rattle.css_meaning.specs.declared.selector.Dialect.{Dialect}
-use Rattle.css_meaning.specs.declared.selector.Nth.{Nth}
-use Rattle.css_meaning.specs.declared.selector.Nth.TheVariants as nth
-use Rattle.css_meaning.specs.WellMade.{IsSmall}
+use Rattle.css_selectors.specs.declared.selector.Dialect.{Dialect}
+use Rattle.css_selectors.specs.declared.selector.Nth.{Nth}
+use Rattle.css_selectors.specs.declared.selector.Nth.TheVariants as nth
+use Rattle.css_selectors.specs.WellMade.{IsSmall}
 use Rattle.xpath_lexer.specs.Tokens.{Text}
 use Rattle.xpath_parser.specs.declared.expression.Func.TheVariants as f
 use Rattle.xpath_parser.specs.declared.term.Term.{Term}
@@ -15,10 +15,9 @@ use Rattle.xpath_parser.specs.declared.term.Term.TheVariants as t
 use Rattle.xpath_parser.specs.Terms.{axis_names, function_names, node_type_names, operator_names}
 use Rattle.css_printed.specs.Conditions.{Condition, never, exactly, at_least, at_most, every, conditions}
 use Rattle.css_printed.specs.Simples.{condition_text, siblings_text, nth_text}
-use Rattle.css_printed.specs.Texts.{IsElementText}
 use Rattle.css_printed.proofs.MeansPositions.{IsSmallCondition, small_conditions}
 use Rattle.css_printed.proofs.SpellFixed.{Puts, Piece, ◌⨾◌, fix, said, then_puts, nothing_puts}
-use Rattle.css_printed.proofs.SpellNames.{element_piece}
+use Rattle.css_printed.proofs.SpellNames.{IsElementText, element_piece}
 use Rattle.css_printed.proofs.SpellNumbers.{number_puts}
 use Rattle.css_printed.proofs.SpellOps.{six, nowhere_puts}
 use Rattle.css_printed.proofs.TemplateTerms as terms

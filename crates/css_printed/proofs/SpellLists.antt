@@ -1,22 +1,21 @@
 -- The printed text of every selector list that is well made is spelled by its terms.
-use Rattle.std.proofs.Common.{◌≡◌, refl, sym, subst, ℕ, suc, ◌<◌, ◌≤◌, Bool, true, false, cond, List, [], ◌∷◌, ◌++◌, map, length, codes, append-nil, Option, Some, None, ◌==◌, arith}
+use Rattle.std.proofs.Common.{◌≡◌, refl, sym, ◌∙◌, subst, ℕ, suc, ◌<◌, ◌≤◌, Bool, true, false, cond, List, [], ◌∷◌, ◌++◌, map, length, codes, append-nil, Option, Some, None, ◌==◌, arith}
 use Rattle.std.specs.Prelude.{◌≢◌}
 use Rattle.std.specs.List.{flat_map, AllByRecursion, list_all}
 use Rattle.std.specs.Str.{chars}
 use Rattle.std.proofs.lemmas.Bool.{and_parts}
 use Rattle.std.proofs.lemmas.Bool.Decides.{nat_tests}
 use Rattle.std.proofs.lemmas.List.Elements.{recursion_from_All}
-use Rattle.css_meaning.specs.declared.selector.Dialect.{Dialect}
-use Rattle.css_meaning.specs.declared.selector.Link.{Link}
-use Rattle.css_meaning.specs.declared.selector.Link.TheVariants as link
-use Rattle.css_meaning.specs.declared.selector.Part.{Part}
-use Rattle.css_meaning.specs.declared.selector.Selector.{Selector}
-use Rattle.css_meaning.specs.declared.selector.SelectorList.{SelectorList}
-use Rattle.css_meaning.specs.declared.selector.Simple.{Simple}
-use Rattle.css_meaning.specs.declared.selector.Tail.{Tail}
-use Rattle.css_meaning.specs.declared.selector.Tail.TheVariants as tail
+use Rattle.css_selectors.specs.declared.selector.Dialect.{Dialect}
+use Rattle.css_selectors.specs.declared.selector.Link.{Link}
+use Rattle.css_selectors.specs.declared.selector.Link.TheVariants as link
+use Rattle.css_selectors.specs.declared.selector.Part.{Part, out-Part}
+use Rattle.css_selectors.specs.declared.selector.Selector.{Selector}
+use Rattle.css_selectors.specs.declared.selector.SelectorList.{SelectorList}
+use Rattle.css_selectors.specs.declared.selector.Tail.{Tail}
+use Rattle.css_selectors.specs.declared.selector.Tail.TheVariants as tail
 use Rattle.css_meaning.specs.Names.{folded}
-use Rattle.css_meaning.specs.WellMade.{WellMade, IsSelector, IsPart, AreLinked, FitsTest}
+use Rattle.css_selectors.specs.WellMade.{WellMade, IsSelector, IsPart, AreLinked}
 use Rattle.xpath_lexer.specs.Tokens.{Text}
 use Rattle.xpath_parser.specs.declared.term.Term.{Term}
 use Rattle.xpath_parser.specs.declared.term.Term.TheVariants as t
@@ -24,14 +23,17 @@ use Rattle.xpath_parser.specs.Reading.{most_bytes}
 use Rattle.xpath_parser.specs.Terms.{axis_names, function_names, node_type_names, operator_names, most_open}
 use Rattle.css_printed.specs.Names.{is_plain, is_plain_start, is_plain_char, name_bytes, name_bracket, element_text, attribute_text}
 use Rattle.css_printed.specs.Printed.{next_text, step_text, part_text, tail_text, parts_text, selector_text, joined, printed}
-use Rattle.css_printed.specs.Simples.{simple_text}
-use Rattle.css_printed.specs.Texts.{IsElementText, IsTestText, IsTailText, IsPartText, IsSelectorText, AreTexts}
+use Rattle.css_printed.specs.TestTexts.{simple_text}
+use Rattle.css_selectors.specs.Texts as texts
+use Rattle.css_selectors.specs.Texts.{part_texts, selector_texts, AreTexts}
+use Rattle.css_selectors.proofs.TextsAt.{at_part}
 use Rattle.css_printed.proofs.Pieces.{NoSlash, slash}
 use Rattle.css_printed.proofs.PlainNames.{plain_bytes}
 use Rattle.css_printed.proofs.Spelling.{Spoken, nothing}
 use Rattle.css_printed.proofs.SpellFixed.{Puts, Piece, ◌⨾◌, fix, then_puts, nothing_puts}
-use Rattle.css_printed.proofs.SpellNames.{element_puts, attribute_puts, element_piece}
-use Rattle.css_printed.proofs.SpellTests.{eight, self_puts, simple_puts}
+use Rattle.css_printed.proofs.SpellNames.{IsElementText, element_puts, attribute_puts, element_piece}
+use Rattle.css_printed.proofs.SpellTests.{eight, self_puts}
+use Rattle.css_printed.proofs.SpellChoices.{thrice, all_true, part_spells}
 use Rattle.css_printed.proofs.TemplateTerms as terms
 
 -- ---- what is not behind a `/`
@@ -83,58 +85,54 @@ further_puts d link.Later el k h r = let all : Piece (eight r) true (eight r) tr
 
 -- ---- parts
 
-simples_put : (d : Dialect) (el : Option (List ℕ)) (ss : List Simple) → IsElementText el → AllByRecursion (λ x. IsTestText x.test) ss → AllByRecursion (λ x. FitsTest el x.negated x.test) ss
-    → (r : ℕ) → Puts (eight r) true (eight r) true (flat_map (simple_text d el) ss) (flat_map (terms.simple_terms d el) ss)
-simples_put d el [] h g fits r = nothing_puts (eight r) true
-simples_put d el (x ∷ ss) h g fits r =
-    then_puts (eight r) true (eight r) true (eight r) true (simple_text d el x) (flat_map (simple_text d el) ss) (terms.simple_terms d el x) (flat_map (terms.simple_terms d el) ss)
-    (simple_puts d el x h g.0 fits.0 r) (simples_put d el ss h g.1 fits.1 r)
+-- room for the brackets of eight levels
+abbrev full : ℕ → ℕ
+full r = eight (thrice 8 r)
 
-part_simples : (d : Dialect) (p : Part) → IsPartText p → IsPart p → (r : ℕ)
-    → Puts (eight r) true (eight r) true (flat_map (simple_text d p.element) p.simples) (flat_map (terms.simple_terms d p.element) p.simples)
-part_simples d p g h r =
-    simples_put d p.element p.simples g.0 (recursion_from_All (λ (x : Simple). IsTestText x.test) p.simples g.1)
-    (recursion_from_All (λ (x : Simple). FitsTest p.element x.negated x.test) p.simples h) r
+module _ (d : Dialect) where
+  element_is : (p : Part) → part_texts p ≡ true → IsElementText (out-Part p).element
+  element_is p g = (and_parts _ _ (sym (at_part p) ∙ g)).0
 
-first_part : (d : Dialect) (p : Part) → p.link ≡ link.First → IsPartText p → IsPart p → (r : ℕ) → Puts (eight r) false (eight r) true (part_text d p) (terms.part_terms d p)
-first_part d p e g h r =
-    let P : Link → Type 0 = λ l. Puts (eight r) false (eight r) true (step_text d l p.element) (terms.link_step_terms d l p.element) in
-    then_puts (eight r) false (eight r) true (eight r) true (step_text d p.link p.element) (flat_map (simple_text d p.element) p.simples)
-    (terms.link_step_terms d p.link p.element) (flat_map (terms.simple_terms d p.element) p.simples)
-    (subst P (sym e) (first_puts d p.element g.0 r)) (part_simples d p g h r)
+  first_part : (p : Part) → (out-Part p).link ≡ link.First → part_texts p ≡ true → IsPart p → (r : ℕ) → Puts (full r) false (full r) true (part_text d p) (terms.part_terms d p)
+  first_part p e g h r =
+      let P : Link → Type 0 = λ l. Puts (full r) false (full r) true (step_text d l (out-Part p).element) (terms.link_step_terms d l (out-Part p).element) in
+      then_puts (full r) false (full r) true (full r) true (step_text d (out-Part p).link (out-Part p).element) (flat_map (λ x. simple_text d x (out-Part p).element) (out-Part p).simples)
+      (terms.link_step_terms d (out-Part p).link (out-Part p).element) (flat_map (λ x. terms.simple_terms d x (out-Part p).element) (out-Part p).simples)
+      (subst P (sym e) (first_puts d (out-Part p).element (element_is p g) (thrice 8 r))) (part_spells d p g h r)
 
-further_part : (d : Dialect) (p : Part) → p.link ≢ link.First → IsPartText p → IsPart p → (r : ℕ) → Puts (eight r) true (eight r) true (part_text d p) (t.Slash ∷ terms.part_terms d p)
-further_part d p k g h r =
-    then_puts (eight r) true (eight r) true (eight r) true (step_text d p.link p.element) (flat_map (simple_text d p.element) p.simples)
-    (t.Slash ∷ terms.link_step_terms d p.link p.element) (flat_map (terms.simple_terms d p.element) p.simples)
-    (further_puts d p.link p.element k g.0 r) (part_simples d p g h r)
+  further_part : (p : Part) → (out-Part p).link ≢ link.First → part_texts p ≡ true → IsPart p → (r : ℕ) → Puts (full r) true (full r) true (part_text d p) (t.Slash ∷ terms.part_terms d p)
+  further_part p k g h r =
+      then_puts (full r) true (full r) true (full r) true (step_text d (out-Part p).link (out-Part p).element) (flat_map (λ x. simple_text d x (out-Part p).element) (out-Part p).simples)
+      (t.Slash ∷ terms.link_step_terms d (out-Part p).link (out-Part p).element) (flat_map (λ x. terms.simple_terms d x (out-Part p).element) (out-Part p).simples)
+      (further_puts d (out-Part p).link (out-Part p).element k (element_is p g) (thrice 8 r)) (part_spells d p g h r)
 
-further_parts : (d : Dialect) (ps : List Part) → AllByRecursion (λ q. q.link ≢ link.First) ps → AllByRecursion IsPartText ps → AllByRecursion IsPart ps → (r : ℕ)
-    → Puts (eight r) true (eight r) true (parts_text d ps) (terms.further_terms d ps)
-further_parts d [] k g h r = nothing_puts (eight r) true
-further_parts d (p ∷ ps) k g h r =
-    then_puts (eight r) true (eight r) true (eight r) true (part_text d p) (parts_text d ps) (t.Slash ∷ terms.part_terms d p) (terms.further_terms d ps)
-    (further_part d p k.0 g.0 h.0 r) (further_parts d ps k.1 g.1 h.1 r)
+  further_parts : (ps : List Part) → AllByRecursion (λ q. (out-Part q).link ≢ link.First) ps → AllByRecursion (λ q. part_texts q ≡ true) ps → AllByRecursion IsPart ps → (r : ℕ)
+      → Puts (full r) true (full r) true (parts_text d ps) (terms.further_terms d ps)
+  further_parts [] k g h r = nothing_puts (full r) true
+  further_parts (p ∷ ps) k g h r =
+      then_puts (full r) true (full r) true (full r) true (part_text d p) (parts_text d ps) (t.Slash ∷ terms.part_terms d p) (terms.further_terms d ps)
+      (further_part p k.0 g.0 h.0 r) (further_parts ps k.1 g.1 h.1 r)
 
-parts_put : (d : Dialect) (ps : List Part) → AreLinked ps → AllByRecursion IsPartText ps → AllByRecursion IsPart ps → (r : ℕ)
-    → Puts (eight r) false (eight r) true (parts_text d ps) (terms.parts_terms d ps)
-parts_put d [] k g h r = absurd k
-parts_put d (p ∷ ps) k g h r =
-    then_puts (eight r) false (eight r) true (eight r) true (part_text d p) (parts_text d ps) (terms.part_terms d p) (terms.further_terms d ps)
-    (first_part d p k.0 g.0 h.0 r) (further_parts d ps (recursion_from_All (λ (q : Part). q.link ≢ link.First) ps k.1) g.1 h.1 r)
+  parts_put : (ps : List Part) → AreLinked ps → AllByRecursion (λ q. part_texts q ≡ true) ps → AllByRecursion IsPart ps → (r : ℕ)
+      → Puts (full r) false (full r) true (parts_text d ps) (terms.parts_terms d ps)
+  parts_put [] k g h r = absurd k
+  parts_put (p ∷ ps) k g h r =
+      then_puts (full r) false (full r) true (full r) true (part_text d p) (parts_text d ps) (terms.part_terms d p) (terms.further_terms d ps)
+      (first_part p k.0 g.0 h.0 r) (further_parts ps (recursion_from_All (λ (q : Part). (out-Part q).link ≢ link.First) ps k.1) g.1 h.1 r)
 
 -- ---- selectors and lists
 
-tail_puts : (d : Dialect) (u : Tail) → IsTailText u → (r : ℕ) → Puts (eight r) true (eight r) true (tail_text d u) (terms.ending_terms d u)
+tail_puts : (d : Dialect) (u : Tail) → texts.tail_text u ≡ true → (r : ℕ) → Puts (eight r) true (eight r) true (tail_text d u) (terms.ending_terms d u)
 unfolding axis_names function_names node_type_names operator_names chars
 tail_puts d tail.Element h r = nothing_puts (eight r) true
 tail_puts d tail.Text h r = let all : Piece (eight r) true (eight r) true = fix (codes "/text()") (λ rest. refl) refl in all.puts
 tail_puts d (tail.Attr n) h r = slash_puts (eight r) (attribute_text d n) (terms.attribute d n) (attribute_no_slash d n) (attribute_puts (suc (suc (suc (suc (suc (suc r)))))) d n h)
 
-pub selector_puts : (d : Dialect) (s : Selector) → IsSelectorText s → IsSelector s → (r : ℕ) → Puts (eight r) false (eight r) true (selector_text d s) (terms.selector_terms d s)
+selector_puts : (d : Dialect) (s : Selector) → selector_texts s ≡ true → IsSelector s → (r : ℕ) → Puts (full r) false (full r) true (selector_text d s) (terms.selector_terms d s)
 selector_puts d s g h r =
-    then_puts (eight r) false (eight r) true (eight r) true (parts_text d s.parts) (tail_text d s.tail) (terms.parts_terms d s.parts) (terms.ending_terms d s.tail)
-    (parts_put d s.parts h.links (recursion_from_All IsPartText s.parts g.0) (recursion_from_All IsPart s.parts h.parts) r) (tail_puts d s.tail g.1 r)
+    let both : (list_all part_texts s.parts ≡ true) × (texts.tail_text s.tail ≡ true) = and_parts (list_all part_texts s.parts) (texts.tail_text s.tail) g in
+    then_puts (full r) false (full r) true (full r) true (parts_text d s.parts) (tail_text d s.tail) (terms.parts_terms d s.parts) (terms.ending_terms d s.tail)
+    (parts_put d s.parts h.links (all_true part_texts s.parts both.0) (recursion_from_All IsPart s.parts h.parts) r) (tail_puts d s.tail both.1 (thrice 8 r))
 
 bar_puts : (x y : Text) (ts us : List Term) (r : ℕ) → Puts (eight r) false (eight r) true x ts → Puts (eight r) false (eight r) true y us
     → Puts (eight r) false (eight r) true (x ++ (codes " | " ++ y)) (ts ++ (t.Bar ∷ us))
@@ -143,28 +141,28 @@ bar_puts x y ts us r p q =
     let more : Piece (eight r) false (eight r) true = record { text = y; terms = us; puts = q } in
     let all : Piece (eight r) false (eight r) true = one ⨾ fix (codes " | ") (λ rest. refl) refl ⨾ more in all.puts
 
-items_put : (d : Dialect) (s : Selector) (items : List Selector) → AllByRecursion IsSelectorText (s ∷ items) → AllByRecursion IsSelector (s ∷ items) → (r : ℕ)
-    → Puts (eight r) false (eight r) true (joined (map (selector_text d) (s ∷ items))) (terms.united_terms d (s ∷ items))
+items_put : (d : Dialect) (s : Selector) (items : List Selector) → AllByRecursion (λ v. selector_texts v ≡ true) (s ∷ items) → AllByRecursion IsSelector (s ∷ items) → (r : ℕ)
+    → Puts (full r) false (full r) true (joined (map (selector_text d) (s ∷ items))) (terms.united_terms d (s ∷ items))
 items_put d s [] g h r = selector_puts d s g.0 h.0 r
 items_put d s (u ∷ us) g h r =
-    bar_puts (selector_text d s) (joined (map (selector_text d) (u ∷ us))) (terms.selector_terms d s) (terms.united_terms d (u ∷ us)) r
+    bar_puts (selector_text d s) (joined (map (selector_text d) (u ∷ us))) (terms.selector_terms d s) (terms.united_terms d (u ∷ us)) (thrice 8 r)
     (selector_puts d s g.0 h.0 r) (items_put d u us g.1 h.1 r)
 
-some_items : (d : Dialect) (items : List Selector) → 0 < length items → AllByRecursion IsSelectorText items → AllByRecursion IsSelector items → (r : ℕ)
-    → Puts (eight r) false (eight r) true (joined (map (selector_text d) items)) (terms.united_terms d items)
+some_items : (d : Dialect) (items : List Selector) → 0 < length items → AllByRecursion (λ v. selector_texts v ≡ true) items → AllByRecursion IsSelector items → (r : ℕ)
+    → Puts (full r) false (full r) true (joined (map (selector_text d) items)) (terms.united_terms d items)
 some_items d [] some g h r = absurd (omega arith)
 some_items d (s ∷ items) some g h r = items_put d s items g h r
 
-whole_spoken : (x : Text) (ts : List Term) → length x ≤ most_bytes → ((r : ℕ) → Puts (eight r) false (eight r) true x ts) → Spoken most_open false x ts
+whole_spoken : (x : Text) (ts : List Term) → length x ≤ most_bytes → ((r : ℕ) → Puts (full r) false (full r) true x ts) → Spoken most_open false x ts
 whole_spoken x ts short p =
     let P : Text → Type 0 = λ z. Spoken most_open false z ts in
     let Q : List Term → Type 0 = λ z. Spoken most_open false (x ++ []) z in
     let L : Text → Type 0 = λ z. length z ≤ most_bytes in
-    subst P (append-nil x) (subst Q (append-nil ts) (p 56 [] [] (subst L (sym (append-nil x)) short) (nothing most_open)))
+    subst P (append-nil x) (subst Q (append-nil ts) (p 32 [] [] (subst L (sym (append-nil x)) short) (nothing most_open)))
 
 -- the whole list
 pub list_spoken : (d : Dialect) (list : SelectorList) → WellMade list → AreTexts list → length (printed d list) ≤ most_bytes
     → Spoken most_open false (printed d list) (terms.list_terms d list)
-list_spoken d list made texts short =
+list_spoken d list made are_texts short =
     whole_spoken (printed d list) (terms.list_terms d list) short
-    (some_items d list.items made.some (recursion_from_All IsSelectorText list.items texts) (recursion_from_All IsSelector list.items made.each))
+    (some_items d list.items made.some (all_true selector_texts list.items are_texts) (recursion_from_All IsSelector list.items made.each))

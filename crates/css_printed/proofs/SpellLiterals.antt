@@ -10,7 +10,7 @@ use Rattle.xpath_lexer.specs.Tokens.{Text, lexeme, before_quote, token, next, li
 use Rattle.xpath_parser.specs.declared.term.Term.TheVariants as t
 use Rattle.xpath_parser.specs.Terms.{terms_after, axis_names, function_names, node_type_names, operator_names}
 use Rattle.css_printed.specs.Literals.{is_apostrophe, is_double, Quoted, quoted_runs, literal_parts, quoted, listed, shown, literal_text}
-use Rattle.css_printed.specs.Texts.{IsText}
+use Rattle.css_selectors.specs.Texts.{IsText}
 use Rattle.css_printed.proofs.LiteralBytes.{in_bytes, parts_bytes}
 use Rattle.css_printed.proofs.LiteralParts.{value, has_quote, are_closed, literal_value, literal_closed, two_parts}
 use Rattle.css_printed.proofs.SpellFixed.{Puts, Piece, ◌⨾◌, fix}

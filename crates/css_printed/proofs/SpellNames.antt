@@ -6,14 +6,15 @@ use Rattle.std.proofs.lemmas.Bool.{and_parts, and_from}
 use Rattle.std.proofs.lemmas.Bool.Decides.{nat_tests}
 use lib.Utf8.{scalar, scalars}
 use Rattle.doc_model.specs.declared.Axis.TheVariants as axis
-use Rattle.css_meaning.specs.declared.selector.Dialect.{Dialect}
-use Rattle.css_meaning.specs.declared.selector.Dialect.TheVariants.{Generic, Html}
+use Rattle.css_selectors.specs.declared.selector.Dialect.{Dialect}
+use Rattle.css_selectors.specs.declared.selector.Dialect.TheVariants.{Generic, Html}
 use Rattle.css_meaning.specs.Names.{folded}
 use Rattle.xpath_parser.specs.declared.term.Term.TheVariants as t
 use Rattle.xpath_parser.specs.Terms.{axis_names, function_names, node_type_names, operator_names}
 use Rattle.css_printed.specs.Literals.{literal_text}
 use Rattle.css_printed.specs.Names.{is_plain, name_bytes, name_bracket, element_text, attribute_text}
-use Rattle.css_printed.specs.Texts.{IsText, IsElementText}
+use Rattle.css_selectors.specs.Texts as texts
+use Rattle.css_selectors.specs.Texts.{IsText}
 use Rattle.css_printed.proofs.Pieces.{name_says}
 use Rattle.css_printed.proofs.SpellFixed.{Puts, Piece, ◌⨾◌, fix, choose_puts}
 use Rattle.css_printed.proofs.SpellLiterals.{literal_puts}
@@ -39,6 +40,10 @@ abbrev pub literal_piece : {r : ℕ} (x : List ℕ) → IsText x → Piece (suc 
 literal_piece {r = r} x h = record { text = literal_text (encode_utf8_all x); terms = terms.literal x; puts = literal_puts r x h }
 
 -- ---- names
+
+-- a name, where there is one, is a text
+abbrev pub IsElementText : Option (List ℕ) → Type 0
+IsElementText el = texts.element_text el ≡ true
 
 plain_name : (r : ℕ) (d : Dialect) (n : List ℕ) → is_plain (folded d n) ≡ true → Puts r false r true (name_bytes d n) (t.Name (folded d n) ∷ [])
 plain_name r d n h rest us short b = name_says r d n h rest us b

@@ -4,12 +4,12 @@ use Rattle.std.specs.Prelude.{pos, encode_utf8_all}
 use Rattle.std.specs.Char.{to_ascii_lowercase}
 use Rattle.std.specs.Str.{chars}
 use Rattle.doc_model.specs.declared.Axis.TheVariants as axis
-use Rattle.css_meaning.specs.declared.selector.Dialect.{Dialect}
-use Rattle.css_meaning.specs.declared.selector.Dialect.TheVariants.{Generic, Html}
-use Rattle.css_meaning.specs.declared.selector.Nth.TheVariants as nth
-use Rattle.css_meaning.specs.declared.selector.Pseudo.{Pseudo}
-use Rattle.css_meaning.specs.declared.selector.Pseudo.TheVariants as pseudo
-use Rattle.css_meaning.specs.WellMade.{IsSmall}
+use Rattle.css_selectors.specs.declared.selector.Dialect.{Dialect}
+use Rattle.css_selectors.specs.declared.selector.Dialect.TheVariants.{Generic, Html}
+use Rattle.css_selectors.specs.declared.selector.Nth.TheVariants as nth
+use Rattle.css_selectors.specs.declared.selector.Pseudo.{Pseudo}
+use Rattle.css_selectors.specs.declared.selector.Pseudo.TheVariants as pseudo
+use Rattle.css_selectors.specs.WellMade.{IsSmall}
 use Rattle.xpath_lexer.specs.Tokens.{Text}
 use Rattle.xpath_parser.specs.declared.expression.Func.TheVariants as f
 use Rattle.xpath_parser.specs.declared.term.Term.{Term}
@@ -17,11 +17,11 @@ use Rattle.xpath_parser.specs.declared.term.Term.TheVariants as t
 use Rattle.xpath_parser.specs.Terms.{axis_names, function_names, node_type_names, operator_names}
 use Rattle.css_printed.specs.Literals.{literal_text}
 use Rattle.css_printed.specs.Simples.{nth_text, control_text, html_text, pseudo_text, lang_text}
-use Rattle.css_printed.specs.Texts.{IsText, IsElementText}
+use Rattle.css_selectors.specs.Texts.{IsText}
 use Rattle.css_printed.proofs.SpellConditions.{nth_puts}
 use Rattle.css_printed.proofs.SpellFixed.{Puts, Piece, ◌⨾◌, fix, said, then_puts}
 use Rattle.css_printed.proofs.SpellLiterals.{literal_puts}
-use Rattle.css_printed.proofs.SpellNames.{lower_text}
+use Rattle.css_printed.proofs.SpellNames.{IsElementText, lower_text}
 use Rattle.css_printed.proofs.SpellOps.{six, nowhere_puts}
 use Rattle.css_printed.proofs.SpellValues.{dash_literal}
 use Rattle.css_printed.proofs.TemplateTerms as terms

@@ -8,15 +8,15 @@ use Rattle.std.proofs.lemmas.Str.{encodes-append, length-le-encodes}
 use lib.Utf8.{scalar, scalars}
 use Rattle.text_base.specs.Text.{is_space5}
 use Rattle.text_base.specs.Strings.{is_empty}
-use Rattle.css_meaning.specs.declared.selector.Op.{Op}
-use Rattle.css_meaning.specs.declared.selector.Op.TheVariants as op
+use Rattle.css_selectors.specs.declared.selector.Op.{Op}
+use Rattle.css_selectors.specs.declared.selector.Op.TheVariants as op
 use Rattle.xpath_lexer.specs.Tokens.{Text}
 use Rattle.xpath_parser.specs.declared.expression.Func.TheVariants as f
 use Rattle.xpath_parser.specs.declared.term.Term.{Term}
 use Rattle.xpath_parser.specs.declared.term.Term.TheVariants as t
 use Rattle.css_printed.specs.Literals.{literal_text}
 use Rattle.css_printed.specs.Simples.{nowhere, word_text, prefix_text, suffix_text, substring_text, op_text}
-use Rattle.css_printed.specs.Texts.{IsText}
+use Rattle.css_selectors.specs.Texts.{IsText}
 use Rattle.css_printed.proofs.SpellFixed.{Puts, choose_puts}
 use Rattle.css_printed.proofs.SpellLiterals.{literal_puts, literal_long}
 use Rattle.css_printed.proofs.SpellOps.{six, nowhere_puts, exists_puts, equals_puts, word_puts, dash_puts, prefix_puts, substring_puts, suffix_puts}

@@ -1,4 +1,4 @@
--- The printed pieces as terms, template by template: the same table as that of the texts.
+-- The printed pieces as terms, template by template: the same tables as those of the texts.
 use Rattle.std.proofs.Common.{ℕ, ◌-◌, ◌||◌, List, [], ◌∷◌, ◌++◌, map, length, Option, Some, None, codes}
 use Rattle.std.specs.Prelude.{ℤ, pos, if◌then◌else◌}
 use Rattle.std.specs.List.{flat_map, list_any}
@@ -7,24 +7,27 @@ use Rattle.text_base.specs.Text.{is_space5}
 use Rattle.text_base.specs.Strings.{is_empty}
 use Rattle.doc_model.specs.declared.Axis.{Axis}
 use Rattle.doc_model.specs.declared.Axis.TheVariants as axis
-use Rattle.css_meaning.specs.declared.selector.Dialect.{Dialect}
-use Rattle.css_meaning.specs.declared.selector.Dialect.TheVariants.{Generic, Html}
-use Rattle.css_meaning.specs.declared.selector.Link.{Link}
-use Rattle.css_meaning.specs.declared.selector.Link.TheVariants as link
-use Rattle.css_meaning.specs.declared.selector.Nth.{Nth}
-use Rattle.css_meaning.specs.declared.selector.Nth.TheVariants as nth
-use Rattle.css_meaning.specs.declared.selector.Op.{Op}
-use Rattle.css_meaning.specs.declared.selector.Op.TheVariants as op
-use Rattle.css_meaning.specs.declared.selector.Part.{Part}
-use Rattle.css_meaning.specs.declared.selector.Pseudo.{Pseudo}
-use Rattle.css_meaning.specs.declared.selector.Pseudo.TheVariants as pseudo
-use Rattle.css_meaning.specs.declared.selector.Selector.{Selector}
-use Rattle.css_meaning.specs.declared.selector.SelectorList.{SelectorList}
-use Rattle.css_meaning.specs.declared.selector.Simple.{Simple}
-use Rattle.css_meaning.specs.declared.selector.Tail.{Tail}
-use Rattle.css_meaning.specs.declared.selector.Tail.TheVariants as tail
-use Rattle.css_meaning.specs.declared.selector.Test.{Test}
-use Rattle.css_meaning.specs.declared.selector.Test.TheVariants as test
+use Rattle.css_selectors.specs.declared.selector.Dialect.{Dialect}
+use Rattle.css_selectors.specs.declared.selector.Dialect.TheVariants.{Generic, Html}
+use Rattle.css_selectors.specs.declared.selector.Link.{Link}
+use Rattle.css_selectors.specs.declared.selector.Link.TheVariants as link
+use Rattle.css_selectors.specs.declared.selector.Nth.{Nth}
+use Rattle.css_selectors.specs.declared.selector.Nth.TheVariants as nth
+use Rattle.css_selectors.specs.declared.selector.Op.{Op}
+use Rattle.css_selectors.specs.declared.selector.Op.TheVariants as op
+use Rattle.css_selectors.specs.declared.selector.Part.{Part, out-Part}
+use Rattle.css_selectors.specs.declared.selector.Pseudo.{Pseudo}
+use Rattle.css_selectors.specs.declared.selector.Pseudo.TheVariants as pseudo
+use Rattle.css_selectors.specs.declared.selector.Selector.{Selector}
+use Rattle.css_selectors.specs.declared.selector.SelectorList.{SelectorList}
+use Rattle.css_selectors.specs.declared.selector.Simple.{Simple}
+use Rattle.css_selectors.specs.declared.selector.Tail.{Tail}
+use Rattle.css_selectors.specs.declared.selector.Tail.TheVariants as tail
+use Rattle.css_selectors.specs.declared.selector.Test.{Test}
+use Rattle.css_selectors.specs.declared.selector.Test.TheFolds.{fold-Test, fold-Compound, fold-Simple}
+use Rattle.css_selectors.specs.declared.selector.Test.TheOpen as open_
+use Rattle.css_selectors.specs.WellMade.{innermost}
+use Rattle.css_selectors.specs.declared.selector.Compound.{Compound}
 use Rattle.css_meaning.specs.Names.{folded}
 use Rattle.xpath_parser.specs.declared.expression.Func.{Func}
 use Rattle.xpath_parser.specs.declared.expression.Func.TheVariants as f
@@ -34,6 +37,7 @@ use Rattle.xpath_parser.specs.declared.term.Term.TheVariants as t
 use Rattle.css_printed.specs.Conditions.{Condition, never, exactly, at_least, at_most, every, conditions}
 use Rattle.css_printed.specs.Literals.{Quoted, literal_parts}
 use Rattle.css_printed.specs.Names.{is_plain}
+use Rattle.css_printed.specs.TestTexts.{ByName}
 
 -- ---- small words
 
@@ -200,22 +204,59 @@ lang_terms Html x =
 
 -- ---- all tests
 
-abbrev pub test_terms : Dialect → Option (List ℕ) → Test → List Term
-test_terms d el (test.Element n) = in_square (on_axis axis.OwnSelf (element d n))
-test_terms d el (test.Id x) = in_square (plain_attribute (codes "id") ++ (t.Equal ∷ literal x))
-test_terms d el (test.Class x) = op_terms (attribute d (codes "class")) op.Word x
-test_terms d el (test.Attr name o v) = op_terms (attribute d name) o v
-test_terms d el (test.Nth kind a b) = nth_terms d el kind a b
-test_terms d el (test.Pseudo p) = pseudo_terms d el p
-test_terms d el (test.Contains x) = in_square (call f.Contains (t.Dot ∷ t.Comma ∷ literal x))
-test_terms d el (test.Lang x) = lang_terms d x
+-- the predicates of a test, and what stands in its negation
+pub record Said : Type 0 where
+  pub brackets : List Term
+  pub inside : List Term
 
-abbrev pub negated_terms : Dialect → Option (List ℕ) → Test → List Term
-negated_terms d el (test.Element n) = in_square (call f.Not (on_axis axis.OwnSelf (element d n)))
-negated_terms d el x = in_square (call f.Not (on_axis axis.OwnSelf (t.AnyName ∷ test_terms d el x)))
+abbrev pub itself : List Term → List Term
+itself ts = on_axis axis.OwnSelf (t.AnyName ∷ ts)
 
-abbrev pub simple_terms : Dialect → Option (List ℕ) → Simple → List Term
-simple_terms d el x = if x.negated then negated_terms d el x.test else test_terms d el x.test
+abbrev pub by_itself : List Term → Said
+by_itself ts = record { brackets = ts; inside = itself ts }
+
+abbrev pub alone : List Term → Said
+alone ts = record { brackets = in_square ts; inside = ts }
+
+-- with `or` between
+abbrev pub choice : List (List Term) → List Term
+choice [] = []
+choice (x ∷ []) = x
+choice (x ∷ (y ∷ ys)) = x ++ (t.Or ∷ choice (y ∷ ys))
+
+module _ (d : Dialect) where
+  abbrev pub test_step : open_.Test-F (ByName Said) (ByName (List Term)) (Unit {0}) (Unit {0}) (ByName (List Term)) → ByName Said
+  test_step (open_.Element n) around = alone (on_axis axis.OwnSelf (element d n))
+  test_step (open_.Id x) around = by_itself (in_square (plain_attribute (codes "id") ++ (t.Equal ∷ literal x)))
+  test_step (open_.Class x) around = by_itself (op_terms (attribute d (codes "class")) op.Word x)
+  test_step (open_.Attr name o v) around = by_itself (op_terms (attribute d name) o v)
+  test_step (open_.Nth kind a b) around = by_itself (nth_terms d around kind a b)
+  test_step (open_.Pseudo p) around = by_itself (pseudo_terms d around p)
+  test_step (open_.Contains x) around = by_itself (in_square (call f.Contains (t.Dot ∷ t.Comma ∷ literal x)))
+  test_step (open_.Lang x) around = by_itself (lang_terms d x)
+  test_step (open_.Any w list) around = alone (choice (map (λ c. c around) list))
+  test_step (open_.Has list) around = by_itself []
+
+  abbrev pub simple_step : open_.Simple-F (ByName Said) (ByName (List Term)) (Unit {0}) (Unit {0}) (ByName (List Term)) → ByName (List Term)
+  simple_step x around = if x.negated then in_square (call f.Not (x.test around).inside) else (x.test around).brackets
+
+  abbrev pub compound_step : open_.Compound-F (ByName Said) (ByName (List Term)) (Unit {0}) (Unit {0}) (ByName (List Term)) → ByName (List Term)
+  compound_step c around = on_axis axis.OwnSelf (element d c.element ++ flat_map (λ x. x (innermost around c.element)) c.simples)
+
+  abbrev pub part_step : open_.Part-F (ByName Said) (ByName (List Term)) (Unit {0}) (Unit {0}) (ByName (List Term)) → Unit {0}
+  part_step p = tt
+
+  abbrev pub relative_step : open_.Relative-F (ByName Said) (ByName (List Term)) (Unit {0}) (Unit {0}) (ByName (List Term)) → Unit {0}
+  relative_step r = tt
+
+  unfoldable pub test_terms : Test → ByName Said
+  test_terms = fold-Test (ByName Said) (ByName (List Term)) (Unit {0}) (Unit {0}) (ByName (List Term)) test_step compound_step part_step relative_step simple_step
+
+  unfoldable pub compound_terms : Compound → ByName (List Term)
+  compound_terms = fold-Compound (ByName Said) (ByName (List Term)) (Unit {0}) (Unit {0}) (ByName (List Term)) test_step compound_step part_step relative_step simple_step
+
+  unfoldable pub simple_terms : Simple → ByName (List Term)
+  simple_terms = fold-Simple (ByName Said) (ByName (List Term)) (Unit {0}) (Unit {0}) (ByName (List Term)) test_step compound_step part_step relative_step simple_step
 
 -- ---- parts, tails, selectors and lists
 
@@ -232,7 +273,7 @@ link_step_terms d link.Next el = on_axis axis.FollowingSibling (t.AnyName ∷ (i
 link_step_terms d link.Later el = on_axis axis.FollowingSibling (element d el)
 
 abbrev pub part_terms : Dialect → Part → List Term
-part_terms d p = link_step_terms d p.link p.element ++ flat_map (simple_terms d p.element) p.simples
+part_terms d p = link_step_terms d (out-Part p).link (out-Part p).element ++ flat_map (λ s. simple_terms d s (out-Part p).element) (out-Part p).simples
 
 -- the tail's step, without the `/` before it
 abbrev pub tail_terms : Dialect → Tail → List Term

@@ -1,14 +1,14 @@
 -- A printed text keeps the meaning of its selector list.
 use Rattle.std.proofs.Common.{◌≡◌, sym, subst, ◌≤◌, length}
-use Rattle.css_meaning.specs.declared.selector.Dialect.{Dialect}
-use Rattle.css_meaning.specs.declared.selector.SelectorList.{SelectorList}
-use Rattle.css_meaning.specs.WellMade.{WellMade}
+use Rattle.css_selectors.specs.declared.selector.Dialect.{Dialect}
+use Rattle.css_selectors.specs.declared.selector.SelectorList.{SelectorList}
+use Rattle.css_selectors.specs.WellMade.{WellMade}
 use Rattle.xpath_lexer.specs.Tokens.{Text}
 use Rattle.xpath_parser.specs.Reading.{most_bytes}
 use Rattle.css_printed.specs.Printed.{printed}
 use Rattle.css_printed.specs.PrintedLaw.{PrintedLaw}
 use Rattle.css_printed.specs.Promise.{KeepsMeaning}
-use Rattle.css_printed.specs.Texts.{AreTexts}
+use Rattle.css_selectors.specs.Texts.{AreTexts}
 use Rattle.css_printed.proofs.KeepsAll.{keeps_all}
 use Rattle.css_printed.proofs.SpellLists.{list_spoken}
 

@@ -1,25 +1,30 @@
--- The types of the predicates of all tests.
-use Rattle.std.proofs.Common.{◌≡◌, refl, ◌∙◌, ap, ℕ, suc, ◌-◌, Bool, true, false, ◌&&◌, ◌||◌, cond, List, [], ◌∷◌, ◌++◌, map, length, Option, Some, None, codes, arith}
-use Rattle.std.specs.Prelude.{ℤ, pos, nat_le}
+-- The types of the predicates of all tests, at every depth.
+use Rattle.std.proofs.Common.{◌≡◌, refl, sym, subst, ◌∙◌, ap, ℕ, zero, suc, ◌-◌, Bool, true, false, ◌&&◌, ◌||◌, cond, List, [], ◌∷◌, ◌++◌, map, length, Option, Some, None, codes, arith}
+use Rattle.std.specs.Prelude.{ℤ, pos, nat_le, All}
 use Rattle.std.specs.Char.{to_ascii_lowercase}
-use Rattle.std.specs.List.{list_all, list_any}
+use Rattle.std.specs.List.{flat_map, list_all, list_any, AllByRecursion}
+use Rattle.std.proofs.lemmas.List.Elements.{recursion_from_All}
 use Rattle.std.proofs.lemmas.Bool.{le-leb}
 use Rattle.text_base.specs.Text.{is_space5}
 use Rattle.text_base.specs.Strings.{is_empty}
 use Rattle.doc_model.specs.declared.Axis.{Axis}
 use Rattle.doc_model.specs.declared.Axis.TheVariants as axis
 use Rattle.doc_model.specs.declared.NodeTest.TheVariants as node
-use Rattle.css_meaning.specs.declared.selector.Dialect.{Dialect}
-use Rattle.css_meaning.specs.declared.selector.Dialect.TheVariants.{Generic, Html}
-use Rattle.css_meaning.specs.declared.selector.Nth.{Nth}
-use Rattle.css_meaning.specs.declared.selector.Nth.TheVariants as nth
-use Rattle.css_meaning.specs.declared.selector.Op.{Op}
-use Rattle.css_meaning.specs.declared.selector.Op.TheVariants as op
-use Rattle.css_meaning.specs.declared.selector.Pseudo.{Pseudo}
-use Rattle.css_meaning.specs.declared.selector.Pseudo.TheVariants as pseudo
-use Rattle.css_meaning.specs.declared.selector.Simple.{Simple}
-use Rattle.css_meaning.specs.declared.selector.Test.{Test}
-use Rattle.css_meaning.specs.declared.selector.Test.TheVariants as test
+use Rattle.css_selectors.specs.declared.selector.Dialect.{Dialect}
+use Rattle.css_selectors.specs.declared.selector.Dialect.TheVariants.{Generic, Html}
+use Rattle.css_selectors.specs.declared.selector.Nth.{Nth}
+use Rattle.css_selectors.specs.declared.selector.Nth.TheVariants as nth
+use Rattle.css_selectors.specs.declared.selector.Op.{Op}
+use Rattle.css_selectors.specs.declared.selector.Op.TheVariants as op
+use Rattle.css_selectors.specs.declared.selector.Pseudo.{Pseudo}
+use Rattle.css_selectors.specs.declared.selector.Pseudo.TheVariants as pseudo
+use Rattle.css_selectors.specs.declared.selector.Compound.{Compound, out-Compound}
+use Rattle.css_selectors.specs.declared.selector.Part.{Part, out-Part}
+use Rattle.css_selectors.specs.declared.selector.Simple.{Simple}
+use Rattle.css_selectors.specs.declared.selector.Test.{Test, out-Test, roll-Test}
+use Rattle.css_selectors.specs.declared.selector.Test.TheOpen as open_
+use Rattle.css_selectors.specs.declared.selector.Test.TheViews as views
+use Rattle.css_selectors.specs.WellMade.{FitsTest, FitsSimple, Nowhere, innermost, IsPart}
 use Rattle.css_meaning.specs.Names.{folded}
 use Rattle.xpath_values.specs.declared.value.Compare.TheVariants as compare
 use Rattle.xpath_values.specs.declared.value.Shape.{Shape}
@@ -33,6 +38,9 @@ use Rattle.css_printed.specs.Conditions.{Condition, never, exactly, at_least, at
 use Rattle.css_printed.specs.Literals.{Quoted, literal_parts}
 use Rattle.css_printed.specs.Names.{is_plain}
 use Rattle.css_printed.specs.Predicates as x
+use Rattle.css_printed.specs.TestPredicates as q
+use Rattle.css_printed.specs.TestPredicates.{Asked, test_asked, compound_expression, simple_predicates}
+use Rattle.css_printed.proofs.PrintedAt.{Layer, asked_layer, asked_at, asked_at_simple, asked_at_compound, asked_at_any}
 use Rattle.css_printed.specs.Predicates.{node_test, name_brackets, predicates_of_name, test_of_name, literal_of}
 use Rattle.css_printed.proofs.TypesPieces.{Typed, AllRight, call_typing, literal_typing, literal_typed, number_typed, call_none, call_one, call_two, call_three, joins_typed, no_expression, front, one, join, each_one, or_typed, and_typed, path_typed}
 
@@ -207,32 +215,98 @@ lang_right Html v = one (path_typed axis.AncestorOrSelf node.AnyName (front (pla
 
 -- ---- all tests
 
-test_right : (d : Dialect) (el : Option (List ℕ)) (u : Test) → AllRight (x.test_predicates d el u)
-test_right d el (test.Element n) = one (elements_typed d axis.OwnSelf n)
-test_right d el (test.Id v) = one (equals_typed (plain_attribute_typed (codes "id")) (text_typed v))
-test_right d el (test.Class v) = op_right (x.attribute d (codes "class")) (attribute_typed d (codes "class")) op.Word v
-test_right d el (test.Attr name o v) = op_right (x.attribute d name) (attribute_typed d name) o v
-test_right d el (test.Nth kind a b) = nth_right d el kind a b
-test_right d el (test.Pseudo c) = pseudo_right d el c
-test_right d el (test.Contains v) = one (call_two f.Contains (path_typed axis.OwnSelf node.Node no_expression) (text_typed v) refl)
-test_right d el (test.Lang v) = lang_right d v
+-- the expression has some type, and all in it is typed right
+pub record IsRight (y : Expr) : Type 0 where
+  pub shape : Shape
+  pub typed : Typed y shape
 
-none : {ps : List Expr} → AllRight ps → AllRight (x.not_one (x.path axis.OwnSelf node.AnyName ps) ∷ [])
-none h = one (not_typed (path_typed axis.OwnSelf node.AnyName h))
+right : {y : Expr} {s : Shape} → Typed y s → IsRight y
+right {s = s} h = record { shape = s; typed = h }
 
-negated_right : (d : Dialect) (el : Option (List ℕ)) (u : Test) → AllRight (x.negated_predicate d el u ∷ [])
-negated_right d el (test.Element n) = one (not_typed (elements_typed d axis.OwnSelf n))
-negated_right d el (test.Id v) = none (test_right d el (test.Id v))
-negated_right d el (test.Class v) = none (test_right d el (test.Class v))
-negated_right d el (test.Attr name o v) = none (test_right d el (test.Attr name o v))
-negated_right d el (test.Nth kind a b) = none (test_right d el (test.Nth kind a b))
-negated_right d el (test.Pseudo c) = none (test_right d el (test.Pseudo c))
-negated_right d el (test.Contains v) = none (test_right d el (test.Contains v))
-negated_right d el (test.Lang v) = none (test_right d el (test.Lang v))
+all_expressions : {X : Type 0} (means : X → Expr) (cs : List X) → AllByRecursion (λ v. IsRight (means v)) cs → AllRight (map means cs)
+all_expressions means [] k = no_expression
+all_expressions means (v ∷ vs) k = front k.0.typed (all_expressions means vs k.1)
+
+choice_right : {X : Type 0} (means : X → Expr) (cs : List X) → AllByRecursion (λ c. IsRight (means c)) cs → IsRight (q.choice (map means cs))
+choice_right means [] h = right (or_typed no_expression)
+choice_right means (c ∷ []) h = h.0
+choice_right means (c ∷ (b ∷ bs)) h = right (or_typed (all_expressions means (c ∷ (b ∷ bs)) h))
+
+-- what is asked is typed right, plainly and in a negation
+pub record AskedRight (a : Asked) : Type 0 where
+  pub plainly : AllRight a.brackets
+  pub inside : IsRight a.inside
+
+of_itself : {ps : List Expr} → AllRight ps → AskedRight (q.by_itself ps)
+of_itself h = record { plainly = h; inside = right (path_typed axis.OwnSelf node.AnyName h) }
+
+of_one : {y : Expr} → IsRight y → AskedRight (q.alone y)
+of_one h = record { plainly = one h.typed; inside = h }
 
 by_sign : (negated : Bool) {y : Expr} {ps : List Expr} → AllRight (y ∷ []) → AllRight ps → AllRight (cond negated (y ∷ []) ps)
 by_sign true h k = h
 by_sign false h k = k
 
-pub simple_right : (d : Dialect) (el : Option (List ℕ)) (s : Simple) → AllRight (x.simple_predicates d el s)
-simple_right d el s = by_sign s.negated (negated_right d el s.test) (test_right d el s.test)
+module _ (d : Dialect) where
+  abbrev SimpleRight : Option (List ℕ) → Simple → Type 0
+  SimpleRight around s = AllRight (simple_predicates d s around)
+
+  simples_right : (around : Option (List ℕ)) (ss : List Simple) → AllByRecursion (SimpleRight around) ss → AllRight (flat_map (λ s. simple_predicates d s around) ss)
+  simples_right around [] h = no_expression
+  simples_right around (s ∷ ss) h = join h.0 (simples_right around ss h.1)
+
+  all_of : (Fits : Simple → Type 0) (around : Option (List ℕ)) → ((s : Simple) → Fits s → SimpleRight around s) → (ss : List Simple) → AllByRecursion Fits ss → AllByRecursion (SimpleRight around) ss
+  all_of Fits around ih [] k = tt
+  all_of Fits around ih (s ∷ ss) k = (ih s k.0, all_of Fits around ih ss k.1)
+
+  compound_right : (around : Option (List ℕ)) (c : Compound) → AllByRecursion (SimpleRight (innermost around (out-Compound c).element)) (out-Compound c).simples → IsRight (compound_expression d c around)
+  compound_right around c h =
+      subst IsRight (sym (asked_at_compound d c around))
+      (right (path_typed axis.OwnSelf (node_test d (out-Compound c).element) (join (name_right d (out-Compound c).element) (simples_right (innermost around (out-Compound c).element) (out-Compound c).simples h))))
+
+  compounds_right : (Fits : Bool → Option (List ℕ) → Simple → Type 0) (inside : Bool) (around : Option (List ℕ)) → ((a : Option (List ℕ)) (s : Simple) → Fits inside a s → SimpleRight a s)
+      → (list : List Compound) → AllByRecursion (λ c. All (Fits inside (innermost around (out-Compound c).element)) (out-Compound c).simples) list
+      → AllByRecursion (λ c. IsRight (compound_expression d c around)) list
+  compounds_right Fits inside around ih [] h = tt
+  compounds_right Fits inside around ih (c ∷ cs) h =
+      let inner : Option (List ℕ) = innermost around (out-Compound c).element in
+      (compound_right around c (all_of (Fits inside inner) inner (ih inner) (out-Compound c).simples (recursion_from_All (Fits inside inner) (out-Compound c).simples h.0)), compounds_right Fits inside around ih cs h.1)
+
+  abbrev TestRight : Option (List ℕ) → Test → Type 0
+  TestRight around u = AskedRight (test_asked d u around)
+
+  made : (around : Option (List ℕ)) (l : Layer) → AskedRight (asked_layer d l around) → TestRight around (roll-Test l)
+  made around l h = subst AskedRight (sym (ap (λ f. f around) (asked_at d l))) h
+
+  layer_right : (Fits : Bool → Option (List ℕ) → Simple → Type 0) → ((inside : Bool) (a : Option (List ℕ)) (s : Simple) → Fits inside a s → SimpleRight a s)
+      → (room inside negated : Bool) (around : Option (List ℕ)) (l : Layer) → FitsTest Fits room inside around negated l → TestRight around (roll-Test l)
+  layer_right Fits ih room inside negated around (open_.Element n) fits = made around (open_.Element n) (of_one (right (elements_typed d axis.OwnSelf n)))
+  layer_right Fits ih room inside negated around (open_.Id v) fits = made around (open_.Id v) (of_itself (one (equals_typed (plain_attribute_typed (codes "id")) (text_typed v))))
+  layer_right Fits ih room inside negated around (open_.Class v) fits = made around (open_.Class v) (of_itself (op_right (x.attribute d (codes "class")) (attribute_typed d (codes "class")) op.Word v))
+  layer_right Fits ih room inside negated around (open_.Attr name o v) fits = made around (open_.Attr name o v) (of_itself (op_right (x.attribute d name) (attribute_typed d name) o v))
+  layer_right Fits ih room inside negated around (open_.Nth kind a b) fits = made around (open_.Nth kind a b) (of_itself (nth_right d around kind a b))
+  layer_right Fits ih room inside negated around (open_.Pseudo c) fits = made around (open_.Pseudo c) (of_itself (pseudo_right d around c))
+  layer_right Fits ih room inside negated around (open_.Contains v) fits =
+      made around (open_.Contains v) (of_itself (one (call_two f.Contains (path_typed axis.OwnSelf node.Node no_expression) (text_typed v) refl)))
+  layer_right Fits ih room inside negated around (open_.Lang v) fits = made around (open_.Lang v) (of_itself (lang_right d v))
+  layer_right Fits ih room inside negated around (open_.Any w list) fits =
+      made around (open_.Any w list) (subst AskedRight (sym (asked_at_any d w list around)) (of_one (choice_right (λ c. compound_expression d c around) list
+      (compounds_right Fits inside around (λ a s k. ih inside a s k) list (recursion_from_All (λ v. All (Fits inside (innermost around (out-Compound v).element)) (out-Compound v).simples) list fits.2)))))
+  layer_right Fits ih room inside negated around (open_.Has list) fits = absurd fits
+
+  by_layer : (Fits : Bool → Option (List ℕ) → Simple → Type 0) → ((inside : Bool) (a : Option (List ℕ)) (s : Simple) → Fits inside a s → SimpleRight a s)
+      → (room inside : Bool) (around : Option (List ℕ)) (s : Simple) → FitsTest Fits room inside around s.negated (out-Test s.test) → SimpleRight around s
+  by_layer Fits ih room inside around s fits =
+      let h : TestRight around s.test = subst (TestRight around) (views.roll-out-Test s.test) (layer_right Fits ih room inside s.negated around (out-Test s.test) fits) in
+      subst AllRight (sym (asked_at_simple d s around)) (by_sign s.negated (one (not_typed h.inside.typed)) h.plainly)
+
+  -- the predicates of a well made simple are typed right
+  simple_right : (n : ℕ) (inside : Bool) (around : Option (List ℕ)) (s : Simple) → FitsSimple n inside around s → SimpleRight around s
+  unfolding FitsSimple
+  simple_right zero inside around s fits = by_layer Nowhere (λ i a y h. absurd h) false inside around s fits
+  simple_right (suc n) inside around s fits = by_layer (FitsSimple n) (λ i a y h. simple_right n i a y h) true inside around s fits
+
+  pub part_simples_right : (p : Part) → IsPart p → AllRight (flat_map (λ s. simple_predicates d s (out-Part p).element) (out-Part p).simples)
+  part_simples_right p h =
+      simples_right (out-Part p).element (out-Part p).simples
+      (all_of (FitsSimple 8 false (out-Part p).element) (out-Part p).element (simple_right 8 false (out-Part p).element) (out-Part p).simples (recursion_from_All (FitsSimple 8 false (out-Part p).element) (out-Part p).simples h))

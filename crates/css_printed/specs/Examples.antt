@@ -1,27 +1,24 @@
 -- The texts of some selectors.
 use Rattle.std.specs.Prelude.{◌≡◌, ℕ, List, [], ◌∷◌, ◌++◌, Option, Some, None, codes, pos, negsuc}
-use Rattle.css_meaning.specs.declared.selector.Dialect.{Dialect}
-use Rattle.css_meaning.specs.declared.selector.Dialect.TheVariants.{Generic, Html}
-use Rattle.css_meaning.specs.declared.selector.Link.TheVariants as link
-use Rattle.css_meaning.specs.declared.selector.Nth.TheVariants as nth
-use Rattle.css_meaning.specs.declared.selector.Op.TheVariants as op
-use Rattle.css_meaning.specs.declared.selector.Pseudo.TheVariants as pseudo
-use Rattle.css_meaning.specs.declared.selector.Selector.{Selector}
-use Rattle.css_meaning.specs.declared.selector.Simple.{Simple}
-use Rattle.css_meaning.specs.declared.selector.Tail.TheVariants as tail
-use Rattle.css_meaning.specs.declared.selector.Test.TheVariants as test
-use Rattle.css_meaning.specs.Examples.{part, is, is_not, selector}
+use Rattle.css_selectors.specs.declared.selector.Dialect.{Dialect}
+use Rattle.css_selectors.specs.declared.selector.Dialect.TheVariants.{Generic, Html}
+use Rattle.css_selectors.specs.declared.selector.Link.TheVariants as link
+use Rattle.css_selectors.specs.declared.selector.Nth.TheVariants as nth
+use Rattle.css_selectors.specs.declared.selector.Op.TheVariants as op
+use Rattle.css_selectors.specs.declared.selector.Pseudo.TheVariants as pseudo
+use Rattle.css_selectors.specs.declared.selector.Selector.{Selector}
+use Rattle.css_selectors.specs.declared.selector.Simple.{Simple}
+use Rattle.css_selectors.specs.declared.selector.Tail.TheVariants as tail
+use Rattle.css_selectors.specs.declared.selector.Test.TheVariants as test
+use Rattle.css_selectors.specs.declared.selector.Weight.TheVariants as weight
+use Rattle.css_selectors.specs.Examples.{part, compound, is, is_not, selector, single}
 use Rattle.css_printed.specs.Printed.{printed}
 
--- one compound alone
-abbrev pub compound : Option (List ℕ) → List Simple → Selector
-compound name simples = selector (part link.First name simples ∷ []) tail.Element
-
 abbrev pub named : List ℕ → List Simple → Selector
-named name simples = compound (Some name) simples
+named name simples = single (Some name) simples
 
 abbrev pub any : List Simple → Selector
-any simples = compound None simples
+any simples = single None simples
 
 abbrev pub shows : Dialect → List Selector → List ℕ → Type 0
 shows dialect items text = printed dialect (record { items = items }) ≡ text
@@ -77,3 +74,18 @@ pub record WorkedTexts : Type 0 where
   pub only_text : shows Html
       (selector (part link.First None (is_not (test.Element (Some (codes "P"))) ∷ is (test.Pseudo pseudo.OnlyChild) ∷ []) ∷ []) tail.Text ∷ [])
       (codes "descendant-or-self::*[not(self::p)][count(preceding-sibling::*) = 0][count(following-sibling::*) = 0]/text()")
+  -- a:is(.x, #y)
+  pub either : shows Html (named (codes "a") (is (test.Any weight.Most (compound None (is (test.Class (codes "x")) ∷ []) ∷ compound None (is (test.Id (codes "y")) ∷ []) ∷ [])) ∷ []) ∷ [])
+      (codes "descendant-or-self::a[self::*[@class and contains(concat(' ', normalize-space(@class), ' '), ' x ')] or self::*[@id = 'y']]")
+  -- :where(li, td):not(p.x, b)
+  pub neither : shows Html
+      (any
+      (is (test.Any weight.Zero (compound (Some (codes "li")) [] ∷ compound (Some (codes "td")) [] ∷ []))
+      ∷ is_not (test.Any weight.Most (compound (Some (codes "p")) (is (test.Class (codes "x")) ∷ []) ∷ compound (Some (codes "b")) [] ∷ []))
+      ∷ []) ∷ [])
+      (codes "descendant-or-self::*[self::li or self::td][not(self::p[@class and contains(concat(' ', normalize-space(@class), ' '), ' x ')] or self::b)]")
+  -- li:is(:first-of-type)
+  pub of_type_around : shows Html (named (codes "li") (is (test.Any weight.Most (compound None (is (test.Nth nth.OfType (pos 0) (pos 1)) ∷ []) ∷ [])) ∷ []) ∷ [])
+      (codes "descendant-or-self::li[self::*[count(preceding-sibling::li) = 0]]")
+  -- :not(:not(a))
+  pub twice_negated : shows Html (any (is_not (test.Any weight.Most (compound None (is_not (test.Element (Some (codes "a"))) ∷ []) ∷ [])) ∷ []) ∷ []) (codes "descendant-or-self::*[not(self::*[not(self::a)])]")

@@ -4,19 +4,20 @@ use Rattle.doc_model.specs.declared.Axis.{Axis}
 use Rattle.doc_model.specs.declared.Axis.TheVariants as axis
 use Rattle.doc_model.specs.declared.NodeTest.{NodeTest}
 use Rattle.doc_model.specs.declared.NodeTest.TheVariants as node
-use Rattle.css_meaning.specs.declared.selector.Dialect.{Dialect}
-use Rattle.css_meaning.specs.declared.selector.Link.{Link}
-use Rattle.css_meaning.specs.declared.selector.Link.TheVariants as link
-use Rattle.css_meaning.specs.declared.selector.Part.{Part}
-use Rattle.css_meaning.specs.declared.selector.Selector.{Selector}
-use Rattle.css_meaning.specs.declared.selector.SelectorList.{SelectorList}
-use Rattle.css_meaning.specs.declared.selector.Tail.{Tail}
-use Rattle.css_meaning.specs.declared.selector.Tail.TheVariants as tail
+use Rattle.css_selectors.specs.declared.selector.Dialect.{Dialect}
+use Rattle.css_selectors.specs.declared.selector.Link.{Link}
+use Rattle.css_selectors.specs.declared.selector.Link.TheVariants as link
+use Rattle.css_selectors.specs.declared.selector.Part.{Part, out-Part}
+use Rattle.css_selectors.specs.declared.selector.Selector.{Selector}
+use Rattle.css_selectors.specs.declared.selector.SelectorList.{SelectorList}
+use Rattle.css_selectors.specs.declared.selector.Tail.{Tail}
+use Rattle.css_selectors.specs.declared.selector.Tail.TheVariants as tail
 use Rattle.xpath_parser.specs.declared.expression.Expr.{Expr}
 use Rattle.xpath_parser.specs.declared.expression.Expr.TheVariants as e
 use Rattle.xpath_parser.specs.declared.expression.Start.TheVariants as start
 use Rattle.xpath_parser.specs.declared.expression.Step.{Step}
-use Rattle.css_printed.specs.Predicates.{step, elements, number, node_test, name_brackets, attribute_step, simple_predicates}
+use Rattle.css_printed.specs.Predicates.{step, elements, number, node_test, name_brackets, attribute_step}
+use Rattle.css_printed.specs.TestPredicates.{simple_predicates}
 
 abbrev pub axis_of : Link → Axis
 axis_of link.First = axis.DescendantOrSelf
@@ -45,10 +46,11 @@ link_brackets dialect link.Child element = name_brackets dialect element
 link_brackets dialect link.Later element = name_brackets dialect element
 
 abbrev pub part_predicates : Dialect → Part → List Expr
-part_predicates dialect p = link_brackets dialect p.link p.element ++ flat_map (simple_predicates dialect p.element) p.simples
+part_predicates dialect p =
+    link_brackets dialect (out-Part p).link (out-Part p).element ++ flat_map (λ s. simple_predicates dialect s (out-Part p).element) (out-Part p).simples
 
 abbrev pub part_step : Dialect → Part → Step
-part_step dialect p = step (axis_of p.link) (link_test dialect p.link p.element) (part_predicates dialect p)
+part_step dialect p = step (axis_of (out-Part p).link) (link_test dialect (out-Part p).link (out-Part p).element) (part_predicates dialect p)
 
 abbrev pub tail_steps : Dialect → Tail → List Step
 tail_steps dialect tail.Element = []

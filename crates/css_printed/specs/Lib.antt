@@ -9,4 +9,5 @@ pub mod Printed
 pub mod PrintedLaw
 pub mod Promise
 pub mod Simples
-pub mod Texts
+pub mod TestPredicates
+pub mod TestTexts

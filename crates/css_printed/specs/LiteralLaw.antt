@@ -7,7 +7,7 @@ use Rattle.xpath_parser.specs.Denote.{denote}
 use Rattle.xpath_parser.specs.Functions.{Context}
 use Rattle.xpath_parser.specs.Reading.{ReadsAs, most_bytes}
 use Rattle.css_printed.specs.Literals.{literal_text}
-use Rattle.css_printed.specs.Texts.{IsText}
+use Rattle.css_selectors.specs.Texts.{IsText}
 
 -- the literal of x reads as an expression whose value is x, wherever it stands
 pub record StandsFor (x : List ℕ) : Type 0 where

@@ -1,4 +1,4 @@
--- The predicates that the printed simple selectors read as.
+-- The predicates that the printed tests read as, of those tests that hold no selectors.
 use Rattle.std.specs.Prelude.{ℕ, ◌-◌, ◌||◌, if◌then◌else◌, List, [], ◌∷◌, ◌++◌, map, length, Option, Some, None, ℤ, pos, codes}
 use Rattle.std.specs.Char.{to_ascii_lowercase}
 use Rattle.std.specs.List.{list_any}
@@ -8,17 +8,14 @@ use Rattle.doc_model.specs.declared.Axis.{Axis}
 use Rattle.doc_model.specs.declared.Axis.TheVariants as axis
 use Rattle.doc_model.specs.declared.NodeTest.{NodeTest}
 use Rattle.doc_model.specs.declared.NodeTest.TheVariants as node
-use Rattle.css_meaning.specs.declared.selector.Dialect.{Dialect}
-use Rattle.css_meaning.specs.declared.selector.Dialect.TheVariants.{Generic, Html}
-use Rattle.css_meaning.specs.declared.selector.Nth.{Nth}
-use Rattle.css_meaning.specs.declared.selector.Nth.TheVariants as nth
-use Rattle.css_meaning.specs.declared.selector.Op.{Op}
-use Rattle.css_meaning.specs.declared.selector.Op.TheVariants as op
-use Rattle.css_meaning.specs.declared.selector.Pseudo.{Pseudo}
-use Rattle.css_meaning.specs.declared.selector.Pseudo.TheVariants as pseudo
-use Rattle.css_meaning.specs.declared.selector.Simple.{Simple}
-use Rattle.css_meaning.specs.declared.selector.Test.{Test}
-use Rattle.css_meaning.specs.declared.selector.Test.TheVariants as test
+use Rattle.css_selectors.specs.declared.selector.Dialect.{Dialect}
+use Rattle.css_selectors.specs.declared.selector.Dialect.TheVariants.{Generic, Html}
+use Rattle.css_selectors.specs.declared.selector.Nth.{Nth}
+use Rattle.css_selectors.specs.declared.selector.Nth.TheVariants as nth
+use Rattle.css_selectors.specs.declared.selector.Op.{Op}
+use Rattle.css_selectors.specs.declared.selector.Op.TheVariants as op
+use Rattle.css_selectors.specs.declared.selector.Pseudo.{Pseudo}
+use Rattle.css_selectors.specs.declared.selector.Pseudo.TheVariants as pseudo
 use Rattle.css_meaning.specs.Names.{folded}
 use Rattle.xpath_values.specs.declared.value.Compare.TheVariants as compare
 use Rattle.xpath_parser.specs.declared.expression.Expr.{Expr}
@@ -209,22 +206,3 @@ lang_begins x =
 abbrev pub lang_predicate : Dialect → List ℕ → Expr
 lang_predicate Generic x = e.Call f.Lang (literal x ∷ [])
 lang_predicate Html x = path axis.AncestorOrSelf node.AnyName (plain_attribute (codes "lang") ∷ number 1 ∷ lang_begins x ∷ [])
-
--- ---- all tests
-
-abbrev pub test_predicates : Dialect → Option (List ℕ) → Test → List Expr
-test_predicates dialect element (test.Element n) = elements dialect axis.OwnSelf n ∷ []
-test_predicates dialect element (test.Id x) = equals (plain_attribute (codes "id")) (literal x) ∷ []
-test_predicates dialect element (test.Class x) = op_predicate (attribute dialect (codes "class")) op.Word x ∷ []
-test_predicates dialect element (test.Attr name o v) = op_predicate (attribute dialect name) o v ∷ []
-test_predicates dialect element (test.Nth kind a b) = nth_predicates dialect element kind a b
-test_predicates dialect element (test.Pseudo p) = pseudo_predicates dialect element p
-test_predicates dialect element (test.Contains x) = e.Call f.Contains (path axis.OwnSelf node.Node [] ∷ literal x ∷ []) ∷ []
-test_predicates dialect element (test.Lang x) = lang_predicate dialect x ∷ []
-
-abbrev pub negated_predicate : Dialect → Option (List ℕ) → Test → Expr
-negated_predicate dialect element (test.Element n) = not_one (elements dialect axis.OwnSelf n)
-negated_predicate dialect element t = not_one (path axis.OwnSelf node.AnyName (test_predicates dialect element t))
-
-abbrev pub simple_predicates : Dialect → Option (List ℕ) → Simple → List Expr
-simple_predicates dialect element x = if x.negated then negated_predicate dialect element x.test ∷ [] else test_predicates dialect element x.test

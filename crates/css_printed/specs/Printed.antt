@@ -1,15 +1,15 @@
 -- The XPath text of a selector list, as bytes.
 use Rattle.std.specs.Prelude.{ℕ, List, [], ◌∷◌, ◌++◌, flat_map, map, Option, Some, None, codes}
-use Rattle.css_meaning.specs.declared.selector.Dialect.{Dialect}
-use Rattle.css_meaning.specs.declared.selector.Link.{Link}
-use Rattle.css_meaning.specs.declared.selector.Link.TheVariants as link
-use Rattle.css_meaning.specs.declared.selector.Part.{Part}
-use Rattle.css_meaning.specs.declared.selector.Selector.{Selector}
-use Rattle.css_meaning.specs.declared.selector.SelectorList.{SelectorList}
-use Rattle.css_meaning.specs.declared.selector.Tail.{Tail}
-use Rattle.css_meaning.specs.declared.selector.Tail.TheVariants as tail
+use Rattle.css_selectors.specs.declared.selector.Dialect.{Dialect}
+use Rattle.css_selectors.specs.declared.selector.Link.{Link}
+use Rattle.css_selectors.specs.declared.selector.Link.TheVariants as link
+use Rattle.css_selectors.specs.declared.selector.Part.{Part, out-Part}
+use Rattle.css_selectors.specs.declared.selector.Selector.{Selector}
+use Rattle.css_selectors.specs.declared.selector.SelectorList.{SelectorList}
+use Rattle.css_selectors.specs.declared.selector.Tail.{Tail}
+use Rattle.css_selectors.specs.declared.selector.Tail.TheVariants as tail
 use Rattle.css_printed.specs.Names.{element_text, attribute_text}
-use Rattle.css_printed.specs.Simples.{simple_text}
+use Rattle.css_printed.specs.TestTexts.{simple_text}
 
 -- the name of the nearest sibling, which is counted before its name is looked at
 abbrev pub next_text : Dialect → Option (List ℕ) → List ℕ
@@ -25,7 +25,7 @@ step_text dialect link.Next element = codes "/following-sibling::*[1]" ++ next_t
 step_text dialect link.Later element = codes "/following-sibling::" ++ element_text dialect element
 
 abbrev pub part_text : Dialect → Part → List ℕ
-part_text dialect p = step_text dialect p.link p.element ++ flat_map (simple_text dialect p.element) p.simples
+part_text dialect p = step_text dialect (out-Part p).link (out-Part p).element ++ flat_map (λ s. simple_text dialect s (out-Part p).element) (out-Part p).simples
 
 abbrev pub tail_text : Dialect → Tail → List ℕ
 tail_text dialect tail.Element = []

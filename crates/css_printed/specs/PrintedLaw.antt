@@ -1,12 +1,12 @@
 -- What is promised of the printed text of every selector list.
 use Rattle.std.specs.Prelude.{◌≤◌, length}
-use Rattle.css_meaning.specs.declared.selector.Dialect.{Dialect}
-use Rattle.css_meaning.specs.declared.selector.SelectorList.{SelectorList}
-use Rattle.css_meaning.specs.WellMade.{WellMade}
+use Rattle.css_selectors.specs.declared.selector.Dialect.{Dialect}
+use Rattle.css_selectors.specs.declared.selector.SelectorList.{SelectorList}
+use Rattle.css_selectors.specs.WellMade.{WellMade}
 use Rattle.xpath_parser.specs.Reading.{most_bytes}
 use Rattle.css_printed.specs.Printed.{printed}
 use Rattle.css_printed.specs.Promise.{KeepsMeaning}
-use Rattle.css_printed.specs.Texts.{AreTexts}
+use Rattle.css_selectors.specs.Texts.{AreTexts}
 
 -- of a well made list, whose names and values are texts, where the printed text is no longer than an XPath text may be
 abbrev pub PrintedLaw : Type 0

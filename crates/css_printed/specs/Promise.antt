@@ -2,9 +2,10 @@
 use Rattle.std.specs.Prelude.{◌≡◌, ℕ, ◌<◌, true, ◌&&◌, List, length, filter}
 use Rattle.std.specs.List.{list_any}
 use Rattle.doc_model.specs.Document.{Document, IsDocument, rows}
-use Rattle.css_meaning.specs.declared.selector.Dialect.{Dialect}
-use Rattle.css_meaning.specs.declared.selector.SelectorList.{SelectorList}
-use Rattle.css_meaning.specs.Limits.{Countable, NoFormFeed, asks_words}
+use Rattle.css_selectors.specs.declared.selector.Dialect.{Dialect}
+use Rattle.css_selectors.specs.declared.selector.SelectorList.{SelectorList}
+use Rattle.css_selectors.specs.Words.{asks_words}
+use Rattle.css_meaning.specs.Limits.{Countable, NoFormFeed}
 use Rattle.css_meaning.specs.Matching.{answers, matches_by, gives}
 use Rattle.xpath_lexer.specs.Tokens.{Text}
 use Rattle.xpath_values.specs.declared.value.Shape.TheVariants as shape

@@ -1,21 +1,18 @@
--- How the simple selectors of a part are printed: each as none, one or several predicates.
+-- How the tests that hold no selectors are printed: each as none, one or several predicates.
 use Rattle.std.specs.Prelude.{ℕ, ◌-◌, ◌||◌, if◌then◌else◌, List, ◌++◌, flat_map, map, length, Option, ℤ, pos, codes, encode_utf8_all}
 use Rattle.std.specs.Char.{to_ascii_lowercase}
 use Rattle.std.specs.Fmt.{decimal}
 use Rattle.std.specs.List.{list_any}
 use Rattle.text_base.specs.Text.{is_space5}
 use Rattle.text_base.specs.Strings.{is_empty}
-use Rattle.css_meaning.specs.declared.selector.Dialect.{Dialect}
-use Rattle.css_meaning.specs.declared.selector.Dialect.TheVariants.{Generic, Html}
-use Rattle.css_meaning.specs.declared.selector.Nth.{Nth}
-use Rattle.css_meaning.specs.declared.selector.Nth.TheVariants as nth
-use Rattle.css_meaning.specs.declared.selector.Op.{Op}
-use Rattle.css_meaning.specs.declared.selector.Op.TheVariants as op
-use Rattle.css_meaning.specs.declared.selector.Pseudo.{Pseudo}
-use Rattle.css_meaning.specs.declared.selector.Pseudo.TheVariants as pseudo
-use Rattle.css_meaning.specs.declared.selector.Simple.{Simple}
-use Rattle.css_meaning.specs.declared.selector.Test.{Test}
-use Rattle.css_meaning.specs.declared.selector.Test.TheVariants as test
+use Rattle.css_selectors.specs.declared.selector.Dialect.{Dialect}
+use Rattle.css_selectors.specs.declared.selector.Dialect.TheVariants.{Generic, Html}
+use Rattle.css_selectors.specs.declared.selector.Nth.{Nth}
+use Rattle.css_selectors.specs.declared.selector.Nth.TheVariants as nth
+use Rattle.css_selectors.specs.declared.selector.Op.{Op}
+use Rattle.css_selectors.specs.declared.selector.Op.TheVariants as op
+use Rattle.css_selectors.specs.declared.selector.Pseudo.{Pseudo}
+use Rattle.css_selectors.specs.declared.selector.Pseudo.TheVariants as pseudo
 use Rattle.css_printed.specs.Literals.{literal_text}
 use Rattle.css_printed.specs.Names.{element_text, attribute_text}
 use Rattle.css_printed.specs.Conditions.{Condition, never, exactly, at_least, at_most, every, conditions}
@@ -114,24 +111,3 @@ lang_text Generic x = codes "[lang(" ++ (literal_text (encode_utf8_all x) ++ cod
 lang_text Html x =
     codes "[ancestor-or-self::*[@lang][1][starts-with(concat(translate(@lang, 'ABCDEFGHIJKLMNOPQRSTUVWXYZ', 'abcdefghijklmnopqrstuvwxyz'), '-'), " ++
     (literal_text (encode_utf8_all (map to_ascii_lowercase x) ++ codes "-") ++ codes ")]]")
-
--- ---- all tests
-
--- The predicates of a test that is not negated. A name is tested there only in a negation.
-abbrev pub test_text : Dialect → Option (List ℕ) → Test → List ℕ
-test_text dialect element (test.Element n) = codes "[self::" ++ (element_text dialect n ++ codes "]")
-test_text dialect element (test.Id x) = codes "[@id = " ++ (literal_text (encode_utf8_all x) ++ codes "]")
-test_text dialect element (test.Class x) = op_text (attribute_text dialect (codes "class")) op.Word x
-test_text dialect element (test.Attr name o v) = op_text (attribute_text dialect name) o v
-test_text dialect element (test.Nth kind a b) = nth_text dialect element kind a b
-test_text dialect element (test.Pseudo p) = pseudo_text dialect element p
-test_text dialect element (test.Contains x) = codes "[contains(., " ++ (literal_text (encode_utf8_all x) ++ codes ")]")
-test_text dialect element (test.Lang x) = lang_text dialect x
-
-abbrev pub negated_text : Dialect → Option (List ℕ) → Test → List ℕ
-negated_text dialect element (test.Element n) = codes "[not(self::" ++ (element_text dialect n ++ codes ")]")
-negated_text dialect element t = codes "[not(self::*" ++ (test_text dialect element t ++ codes ")]")
-
--- element is the name of the part in which the simple stands
-abbrev pub simple_text : Dialect → Option (List ℕ) → Simple → List ℕ
-simple_text dialect element x = if x.negated then negated_text dialect element x.test else test_text dialect element x.test
