@@ -2,4 +2,3 @@ pub mod Inner
 pub mod Read
 pub mod Rows
 pub mod Runs
-pub mod Small

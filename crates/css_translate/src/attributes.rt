@@ -4,14 +4,14 @@ ghost use Rattle.std.specs.List.{list_any};
 ghost use Rattle.std.specs.Str.{chars};
 ghost use Rattle.text_base.specs.Text.{is_space5};
 ghost use Rattle.text_base.specs.Strings.{is_empty};
-ghost use Rattle.css_meaning.specs.declared.selector.Op.TheVariants as op;
+ghost use Rattle.css_selectors.specs.declared.selector.Op.TheVariants as op;
 ghost use Rattle.css_printed.specs.Literals.{literal_text};
 ghost use Rattle.css_printed.specs.Simples.{nowhere, op_text, word_text, dash_text, prefix_text, suffix_text, substring_text};
 
 use crate::literals::{push_literal, push_value};
 use crate::positions::push_decimal;
-use crate::pushing::push;
-use css_meaning::Op;
+use crate::pushing::{push, push_all};
+use css_selectors::Op;
 use std::alloc::Global;
 use text_base::{NoMemory, Txt, char_len, is_space5};
 
@@ -50,18 +50,14 @@ fn push_nowhere(out: &mut String) -> Result<(), NoMemory>
 fn push_exists(out: &mut String, attribute: &str, value: &Txt) -> Result<(), NoMemory>
     ensures { OnOk result (string_bytes out.new ≡ string_bytes out.old ++ op_text attribute.now op.Exists value.now) }
 {
-    push(out, "[")?;
-    push(out, attribute)?;
-    push(out, "]")
+    push_all(out, &["[", attribute, "]"][..])
 }
 
 /// `[@a = 'v']`
 fn push_equals(out: &mut String, attribute: &str, value: &Txt) -> Result<(), NoMemory>
     ensures { OnOk result (string_bytes out.new ≡ string_bytes out.old ++ op_text attribute.now op.Equals value.now) }
 {
-    push(out, "[")?;
-    push(out, attribute)?;
-    push(out, " = ")?;
+    push_all(out, &["[", attribute, " = "][..])?;
     push_value(out, value)?;
     push(out, "]")
 }
@@ -71,9 +67,7 @@ fn spaced(alloc: Global, value: &Txt) -> Result<String, NoMemory>
     ensures { IfOk result (λ t. string_bytes t ≡ codes " " ++ (encode_utf8_all value.now ++ codes " ")) }
 {
     let mut text = String::new(alloc);
-    push(&mut text, " ")?;
-    push(&mut text, value.as_str())?;
-    push(&mut text, " ")?;
+    push_all(&mut text, &[" ", value.as_str(), " "][..])?;
     Ok(text)
 }
 
@@ -112,8 +106,7 @@ fn dashed(alloc: Global, value: &Txt) -> Result<String, NoMemory>
     ensures { IfOk result (λ t. string_bytes t ≡ encode_utf8_all value.now ++ codes "-") }
 {
     let mut text = String::new(alloc);
-    push(&mut text, value.as_str())?;
-    push(&mut text, "-")?;
+    push_all(&mut text, &[value.as_str(), "-"][..])?;
     Ok(text)
 }
 
@@ -146,11 +139,7 @@ fn push_dash(alloc: Global, out: &mut String, attribute: &str, value: &Txt) -> R
 fn push_call(out: &mut String, attribute: &str, call: &str, value: &Txt) -> Result<(), NoMemory>
     ensures { OnOk result (string_bytes out.new ≡ string_bytes out.old ++ (codes "[" ++ (attribute.now ++ (call.now ++ (attribute.now ++ (codes ", " ++ (literal_text (encode_utf8_all value.now) ++ codes ")]"))))))) }
 {
-    push(out, "[")?;
-    push(out, attribute)?;
-    push(out, call)?;
-    push(out, attribute)?;
-    push(out, ", ")?;
+    push_all(out, &["[", attribute, call, attribute, ", "][..])?;
     push_value(out, value)?;
     push(out, ")]")
 }

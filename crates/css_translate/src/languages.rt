@@ -1,12 +1,12 @@
 ghost use Rattle.std.specs.Prelude.{◌≡◌, ◌++◌, OnOk, IfOk, map, string_bytes, encode_utf8_all, codes};
 ghost use Rattle.std.specs.Char.{to_ascii_lowercase};
-ghost use Rattle.css_meaning.specs.declared.selector.Dialect.TheVariants.{Generic, Html};
+ghost use Rattle.css_selectors.specs.declared.selector.Dialect.TheVariants.{Generic, Html};
 ghost use Rattle.css_printed.specs.Literals.{literal_text};
 ghost use Rattle.css_printed.specs.Simples.{lang_text};
 
 use crate::literals::{push_literal, push_value};
 use crate::pushing::push;
-use css_meaning::Dialect;
+use css_selectors::Dialect;
 use std::alloc::Global;
 use text_base::{NoMemory, Txt, lower_ascii};
 

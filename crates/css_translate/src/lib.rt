@@ -2,6 +2,7 @@
 #![tactic(auto)]
 
 mod attributes;
+mod choices;
 mod languages;
 mod literals;
 mod names;

@@ -4,7 +4,7 @@ ghost use Rattle.text_base.specs.Text.{IsPlace, run_end, is_not_byte};
 ghost use Rattle.css_printed.specs.Literals.{is_apostrophe, is_double, quoted_runs, quoted, listed, literal_text};
 ghost use Rattle.css_translate.specs.Runs.{WritesRun, further};
 
-use crate::pushing::push;
+use crate::pushing::{push, push_all};
 use std::alloc::Global;
 use text_base::{NoMemory, Txt, byte_at, find_byte, part};
 
@@ -35,9 +35,7 @@ fn apostrophes_end(text: &str, from: usize) -> usize
 fn push_quoted(out: &mut String, quote: &str, content: &str) -> Result<(), NoMemory>
     ensures { OnOk result (string_bytes out.new ≡ string_bytes out.old ++ (quote.now ++ (content.now ++ quote.now))) }
 {
-    push(out, quote)?;
-    push(out, content)?;
-    push(out, quote)
+    push_all(out, &[quote, content, quote][..])
 }
 
 /// Appends the run that begins at the place, and gives where it ends.

@@ -5,7 +5,7 @@ ghost use Rattle.css_printed.specs.Names.{is_plain_start, is_plain_char, is_plai
 
 use crate::literals::push_literal;
 use crate::pushing::push;
-use css_meaning::Dialect;
+use css_selectors::Dialect;
 use std::alloc::Global;
 use text_base::{NoMemory, Txt, lower_ascii};
 

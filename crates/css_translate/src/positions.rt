@@ -1,12 +1,11 @@
-ghost use Rattle.std.specs.Prelude.{◌≡◌, ◌++◌, ◌≤◌, ◌<◌, OnOk, IfOk, string_bytes, ℤ, pos, ◌-ℤ◌, ◌<ℤ◌, flat_map, codes};
+ghost use Rattle.std.specs.Prelude.{◌≡◌, ◌++◌, ◌<◌, OnOk, IfOk, string_bytes, ℤ, pos, ◌-ℤ◌, ◌<ℤ◌, flat_map, codes};
 ghost use Rattle.std.specs.Fmt.{decimal};
-ghost use Rattle.css_meaning.specs.WellMade.{IsSmall};
 ghost use Rattle.css_printed.specs.Conditions.{remainder, never, exactly, at_least, at_most, every, every_from, from_position, conditions};
 ghost use Rattle.css_printed.specs.Simples.{condition_text, siblings_text, nth_text};
 
 use crate::names::push_element;
-use crate::pushing::push;
-use css_meaning::{Dialect, Nth};
+use crate::pushing::{push, push_all};
+use css_selectors::{Dialect, Nth};
 use std::alloc::Global;
 use text_base::{NoMemory, Txt};
 
@@ -30,9 +29,7 @@ fn push_count(
 ) -> Result<(), NoMemory>
     ensures { OnOk result (string_bytes out.new ≡ string_bytes out.old ++ (codes "[count(" ++ (siblings.now ++ (words.now ++ (decimal n ++ codes "]"))))) }
 {
-    push(out, "[count(")?;
-    push(out, siblings)?;
-    push(out, words)?;
+    push_all(out, &["[count(", siblings, words][..])?;
     push_decimal(alloc, out, n)?;
     push(out, "]")
 }
@@ -75,9 +72,7 @@ fn push_every(
 ) -> Result<(), NoMemory>
     ensures { OnOk result (string_bytes out.new ≡ string_bytes out.old ++ condition_text siblings.now (every n r)) }
 {
-    push(out, "[count(")?;
-    push(out, siblings)?;
-    push(out, ") mod ")?;
+    push_all(out, &["[count(", siblings, ") mod "][..])?;
     push_decimal(alloc, out, n)?;
     push(out, " = ")?;
     push_decimal(alloc, out, r)?;
@@ -86,12 +81,10 @@ fn push_every(
 
 /// The remainder, from 0, of the number before b by n.
 fn remainder_before(b: i64, n: u64) -> u64
-    requires small { IsSmall b }
-    requires size { n ≤ 1000000 }
-    requires some { 0 < n }
+    requires { 0 < n }
     ensures { result ≡ remainder (b -ℤ pos 1) n }
 {
-    (b - 1).rem_euclid(n as i64).unsigned_abs()
+    (b as i128 - 1).rem_euclid(n as i128).unsigned_abs() as u64
 }
 
 /// Appends the condition that every n-th is, from the position b, where n is more than 1.
@@ -103,9 +96,7 @@ fn push_every_from(
     n: u64,
     b: i64,
 ) -> Result<(), NoMemory>
-    requires small { IsSmall b }
-    requires size { n ≤ 1000000 }
-    requires some { 0 < n }
+    requires { 0 < n }
     ensures { OnOk result (string_bytes out.new ≡ string_bytes out.old ++ flat_map (condition_text siblings.now) (every_from n b)) }
 {
     if n > 1 {
@@ -118,7 +109,6 @@ fn push_every_from(
 /// Appends the condition of the positions from b on, where b is more than 1.
 #[tactic(auto, using(css_printed::proofs::ConditionCases::from_second, css_printed::proofs::ConditionCases::from_first))]
 fn push_from(alloc: Global, out: &mut String, siblings: &str, b: i64) -> Result<(), NoMemory>
-    requires small { IsSmall b }
     ensures { OnOk result (string_bytes out.new ≡ string_bytes out.old ++ flat_map (condition_text siblings.now) (from_position b)) }
 {
     if b > 1 {
@@ -131,7 +121,6 @@ fn push_from(alloc: Global, out: &mut String, siblings: &str, b: i64) -> Result<
 /// Appends the condition of one position.
 #[tactic(auto, using(css_printed::proofs::ConditionCases::one_position, css_printed::proofs::ConditionCases::no_position))]
 fn push_one(alloc: Global, out: &mut String, siblings: &str, b: i64) -> Result<(), NoMemory>
-    requires small { IsSmall b }
     ensures { OnOk result (string_bytes out.new ≡ string_bytes out.old ++ flat_map (condition_text siblings.now) (conditions (pos 0) b)) }
 {
     if b > 0 {
@@ -149,9 +138,7 @@ fn push_growing(
     a: i64,
     b: i64,
 ) -> Result<(), NoMemory>
-    requires grows { pos 0 <ℤ a }
-    requires step { IsSmall a }
-    requires small { IsSmall b }
+    requires { pos 0 <ℤ a }
     ensures { OnOk result (string_bytes out.new ≡ string_bytes out.old ++ flat_map (condition_text siblings.now) (conditions a b)) }
 {
     push_from(alloc, out, siblings, b)?;
@@ -166,9 +153,7 @@ fn push_falling(
     a: i64,
     b: i64,
 ) -> Result<(), NoMemory>
-    requires falls { a <ℤ pos 0 }
-    requires step { IsSmall a }
-    requires small { IsSmall b }
+    requires { a <ℤ pos 0 }
     ensures { OnOk result (string_bytes out.new ≡ string_bytes out.old ++ flat_map (condition_text siblings.now) (conditions a b)) }
 {
     if b > 0 {
@@ -186,8 +171,6 @@ fn push_positions(
     a: i64,
     b: i64,
 ) -> Result<(), NoMemory>
-    requires step { IsSmall a }
-    requires small { IsSmall b }
     ensures { OnOk result (string_bytes out.new ≡ string_bytes out.old ++ flat_map (condition_text siblings.now) (conditions a b)) }
 {
     if a == 0 {
@@ -232,8 +215,6 @@ pub fn push_nth(
     a: i64,
     b: i64,
 ) -> Result<(), NoMemory>
-    requires step { IsSmall a }
-    requires small { IsSmall b }
     ensures { OnOk result (string_bytes out.new ≡ string_bytes out.old ++ nth_text dialect element.now kind a b) }
 {
     let mut siblings = String::new(alloc);

@@ -1,43 +1,23 @@
 ghost use Rattle.std.specs.Prelude.{◌≡◌, ◌++◌, ◌≤◌, ◌<◌, ◌⊎◌, OnOk, IfOk, IfErr, flat_map, map, length, string_bytes};
-ghost use Rattle.std.specs.List.{AllByRecursion};
-ghost use Rattle.css_meaning.specs.WellMade.{WellMade};
+ghost use Rattle.css_selectors.specs.WellMade.{WellMade};
 ghost use Rattle.css_printed.specs.Printed.{joined, part_text, tail_text, parts_text, selector_text, printed};
 ghost use Rattle.css_printed.specs.Promise.{KeepsMeaning};
-ghost use Rattle.css_printed.specs.Simples.{simple_text};
 ghost use Rattle.css_translate.specs.Inner.{further_text};
 ghost use Rattle.xpath_parser.specs.Reading.{most_bytes};
-ghost use Rattle.css_translate.specs.Small.{IsSmallSimple, IsSmallPart, IsSmallSelector};
 
+use crate::choices::push_simples;
 use crate::names::push_attribute;
 use crate::pushing::push;
-use crate::simples::push_simple;
 use crate::steps::push_step;
 use crate::texts::read_list;
-use css_meaning::{Dialect, Part, Selector, SelectorList, Simple, Tail};
+use css_selectors::{Dialect, Part, Selector, SelectorList, Tail};
 use std::alloc::Global;
-use text_base::{NoMemory, SelectorFault, Txt};
+use text_base::{NoMemory, SelectorFault};
 
 /// The most bytes of an XPath text.
 const MOST_BYTES: usize = 1_048_576;
 
-fn push_simples(
-    alloc: Global,
-    out: &mut String,
-    dialect: Dialect,
-    element: &Option<Txt>,
-    simples: &[Simple],
-) -> Result<(), NoMemory>
-    requires { AllByRecursion IsSmallSimple simples.now }
-    ensures { OnOk result (string_bytes out.new ≡ string_bytes out.old ++ flat_map (simple_text dialect element.now) simples.now) }
-{
-    for simple in simples {
-        push_simple(alloc, out, dialect, element, simple)?;
-    }
-    Ok(())
-}
-
 fn push_part(alloc: Global, out: &mut String, dialect: Dialect, part: &Part) -> Result<(), NoMemory>
-    requires { IsSmallPart part.now }
     ensures { OnOk result (string_bytes out.new ≡ string_bytes out.old ++ part_text dialect part.now) }
 {
     push_step(alloc, out, dialect, part.link, &part.element)?;
@@ -50,7 +30,6 @@ fn push_parts(
     dialect: Dialect,
     parts: &[Part],
 ) -> Result<(), NoMemory>
-    requires { AllByRecursion IsSmallPart parts.now }
     ensures { OnOk result (string_bytes out.new ≡ string_bytes out.old ++ parts_text dialect parts.now) }
 {
     for part in parts {
@@ -79,7 +58,6 @@ fn push_selector(
     dialect: Dialect,
     selector: &Selector,
 ) -> Result<(), NoMemory>
-    requires { IsSmallSelector selector.now }
     ensures { OnOk result (string_bytes out.new ≡ string_bytes out.old ++ selector_text dialect selector.now) }
 {
     push_parts(alloc, out, dialect, selector.parts.as_slice())?;
@@ -93,7 +71,6 @@ fn push_one_further(
     dialect: Dialect,
     selector: &Selector,
 ) -> Result<(), NoMemory>
-    requires { IsSmallSelector selector.now }
     ensures { OnOk result (string_bytes out.new ≡ string_bytes out.old ++ further_text dialect selector.now) }
 {
     push(out, " | ")?;
@@ -106,7 +83,6 @@ fn push_further(
     dialect: Dialect,
     selectors: &[Selector],
 ) -> Result<(), NoMemory>
-    requires { AllByRecursion IsSmallSelector selectors.now }
     ensures { OnOk result (string_bytes out.new ≡ string_bytes out.old ++ flat_map (further_text dialect) selectors.now) }
 {
     for selector in selectors {
@@ -121,7 +97,6 @@ fn push_list(
     dialect: Dialect,
     selectors: &[Selector],
 ) -> Result<(), NoMemory>
-    requires { AllByRecursion IsSmallSelector selectors.now }
     ensures { OnOk result (string_bytes out.new ≡ string_bytes out.old ++ joined (map (selector_text dialect) selectors.now)) }
 {
     match selectors.split_first() {
@@ -134,7 +109,6 @@ fn push_list(
 }
 
 fn print_list(alloc: Global, dialect: Dialect, list: &SelectorList) -> Result<String, NoMemory>
-    requires { AllByRecursion IsSmallSelector list.now.items }
     ensures { IfOk result (λ t. string_bytes t ≡ printed dialect list.now) }
 {
     let mut out = String::new(alloc);
@@ -144,7 +118,6 @@ fn print_list(alloc: Global, dialect: Dialect, list: &SelectorList) -> Result<St
 
 /// The XPath of a selector list, which gives the rows that the list answers, from each row. The text is refused as too
 /// long exactly where it has more than 1,048,576 bytes, as many as an XPath text may have.
-#[tactic(auto, using(crate::proofs::Further::all_small))]
 pub fn translate(
     alloc: Global,
     dialect: Dialect,

@@ -1,10 +1,10 @@
 ghost use Rattle.std.specs.Prelude.{◌≡◌, ◌++◌, OnOk, string_bytes};
-ghost use Rattle.css_meaning.specs.declared.selector.Pseudo.TheVariants as pseudo;
+ghost use Rattle.css_selectors.specs.declared.selector.Pseudo.TheVariants as pseudo;
 ghost use Rattle.css_printed.specs.Simples.{html_text, pseudo_text};
 
 use crate::positions::push_nth;
 use crate::pushing::push;
-use css_meaning::{Dialect, Nth, Pseudo};
+use css_selectors::{Dialect, Nth, Pseudo};
 use std::alloc::Global;
 use text_base::{NoMemory, Txt};
 

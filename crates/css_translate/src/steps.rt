@@ -3,7 +3,7 @@ ghost use Rattle.css_printed.specs.Printed.{step_text, next_text};
 
 use crate::names::push_element;
 use crate::pushing::push;
-use css_meaning::{Dialect, Link};
+use css_selectors::{Dialect, Link};
 use std::alloc::Global;
 use text_base::{NoMemory, Txt};
 

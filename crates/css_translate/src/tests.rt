@@ -1,9 +1,8 @@
 ghost use Rattle.std.specs.Prelude.{◌≡◌, IfOk};
-ghost use Rattle.css_meaning.specs.WellMade.{FitsTest};
-ghost use Rattle.css_translate.specs.Rows.{one_simple};
+ghost use Rattle.css_translate.specs.Rows.{one_simple, FitsAlone};
 
 use crate::{literal, translate};
-use css_meaning::{Dialect, Link, Nth, Op, Part, Selector, SelectorList, Simple, Tail, Test};
+use css_selectors::{Dialect, Link, Nth, Op, Part, Selector, SelectorList, Simple, Tail, Test};
 use std::alloc::Global;
 use std::test::Fail;
 use text_base::{NoMemory, Seq, Txt};
@@ -43,7 +42,7 @@ fn shown(
     negated: bool,
     test: Test,
 ) -> Result<String, Fail>
-    requires { FitsTest element negated test }
+    requires { FitsAlone element negated test }
 {
     let list = simple_list(alloc, element, negated, test)?;
     Ok(translate(alloc, dialect, &list)?)

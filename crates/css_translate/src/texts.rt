@@ -1,8 +1,9 @@
+ghost use Rattle.std.specs.Prelude.{◌≡◌, true};
 ghost use Rattle.std.specs.List.{AllByRecursion};
-ghost use Rattle.css_printed.specs.Texts.{IsText, IsElementText, IsTestText, IsSimpleText, IsTailText, AreTexts};
-ghost use Rattle.css_translate.specs.Read.{IsReadPart, IsReadSelector};
+ghost use Rattle.css_selectors.specs.Texts.{IsText, element_text, test_texts, tail_text, AreTexts};
+ghost use Rattle.css_translate.specs.Read.{IsReadSimple, IsReadCompound, IsReadPart, IsReadRelative, IsReadSelector};
 
-use css_meaning::{Part, Selector, SelectorList, Simple, Tail, Test};
+use css_selectors::{Compound, Part, Relative, Selector, SelectorList, Simple, Tail, Test};
 use text_base::Txt;
 
 /// Reads a text, which consists of characters as every text does.
@@ -13,7 +14,7 @@ fn read(text: &Txt)
 }
 
 fn read_element(element: &Option<Txt>)
-    ensures { IsElementText element.now }
+    ensures { element_text element.now ≡ true }
 {
     match element {
         None => {}
@@ -29,8 +30,10 @@ fn read_both(name: &Txt, value: &Txt)
     read(value);
 }
 
+#[cycle(reading)]
+#[tactic(auto, using(crate::proofs::TextLemmas::read_element, crate::proofs::TextLemmas::read_id, crate::proofs::TextLemmas::read_class, crate::proofs::TextLemmas::read_attr, crate::proofs::TextLemmas::read_contains, crate::proofs::TextLemmas::read_lang, crate::proofs::TextLemmas::read_any, crate::proofs::TextLemmas::read_has, css_selectors::proofs::TextsAt::at_nth, css_selectors::proofs::TextsAt::at_pseudo))]
 fn read_test(test: &Test)
-    ensures { IsTestText test.now }
+    ensures { test_texts test.now ≡ true }
 {
     match test {
         Test::Element(name) => read_element(name),
@@ -41,17 +44,48 @@ fn read_test(test: &Test)
         Test::Pseudo(_) => {}
         Test::Contains(value) => read(value),
         Test::Lang(tag) => read(tag),
+        Test::Any(_, list) => read_compounds(list.as_slice()),
+        Test::Has(list) => read_relatives(list.as_slice()),
     }
 }
 
+#[cycle(reading)]
+#[tactic(auto, using(crate::proofs::TextLemmas::read_simple))]
+fn read_simple(simple: &Simple)
+    ensures { IsReadSimple simple.now }
+{
+    read_test(&simple.test);
+}
+
+#[cycle(reading)]
 fn read_simples(simples: &[Simple])
-    ensures { AllByRecursion IsSimpleText simples.now }
+    ensures { AllByRecursion IsReadSimple simples.now }
 {
     for simple in simples {
-        read_test(&simple.test);
+        read_simple(simple);
     }
 }
 
+#[cycle(reading)]
+#[tactic(auto, using(crate::proofs::TextLemmas::read_compound))]
+fn read_compound(compound: &Compound)
+    ensures { IsReadCompound compound.now }
+{
+    read_element(&compound.element);
+    read_simples(compound.simples.as_slice());
+}
+
+#[cycle(reading)]
+fn read_compounds(compounds: &[Compound])
+    ensures { AllByRecursion IsReadCompound compounds.now }
+{
+    for compound in compounds {
+        read_compound(compound);
+    }
+}
+
+#[cycle(reading)]
+#[tactic(auto, using(crate::proofs::TextLemmas::read_part))]
 fn read_part(part: &Part)
     ensures { IsReadPart part.now }
 {
@@ -59,6 +93,7 @@ fn read_part(part: &Part)
     read_simples(part.simples.as_slice());
 }
 
+#[cycle(reading)]
 fn read_parts(parts: &[Part])
     ensures { AllByRecursion IsReadPart parts.now }
 {
@@ -67,8 +102,25 @@ fn read_parts(parts: &[Part])
     }
 }
 
+#[cycle(reading)]
+#[tactic(auto, using(crate::proofs::TextLemmas::read_relative))]
+fn read_relative(relative: &Relative)
+    ensures { IsReadRelative relative.now }
+{
+    read_parts(relative.parts.as_slice());
+}
+
+#[cycle(reading)]
+fn read_relatives(relatives: &[Relative])
+    ensures { AllByRecursion IsReadRelative relatives.now }
+{
+    for relative in relatives {
+        read_relative(relative);
+    }
+}
+
 fn read_tail(tail: &Tail)
-    ensures { IsTailText tail.now }
+    ensures { tail_text tail.now ≡ true }
 {
     match tail {
         Tail::Element => {}
@@ -77,6 +129,7 @@ fn read_tail(tail: &Tail)
     }
 }
 
+#[tactic(auto, using(crate::proofs::TextLemmas::read_selector))]
 fn read_selector(selector: &Selector)
     ensures { IsReadSelector selector.now }
 {

@@ -1,5 +1,5 @@
 use Rattle.std.proofs.Common.{◌≡◌, sym, ap, ◌∙◌, map, rules, ◌∷◌, List}
-use Rattle.css_meaning.specs.declared.selector.Selector.{Selector}
+use Rattle.css_selectors.specs.declared.selector.Selector.{Selector}
 use Rattle.css_printed.specs.Printed.{joined, selector_text}
 use Rattle.css_translate.proofs.Pushes.{two, same_piece}
 use Rattle.css_translate.proofs.Further.{printed_further}

@@ -1,0 +1,109 @@
+-- What is printed of each form of test, and the choices as they grow.
+use Rattle.std.proofs.Common.{◌≡◌, refl, sym, ◌∙◌, ap, ℕ, ℤ, Bool, true, false, cond, List, [], ◌∷◌, ◌++◌, map, Option, codes, append_assoc}
+use Rattle.std.specs.Prelude.{encode_utf8_all}
+use Rattle.css_selectors.specs.declared.selector.Compound.{Compound}
+use Rattle.css_selectors.specs.declared.selector.Dialect.{Dialect}
+use Rattle.css_selectors.specs.declared.selector.Nth.{Nth}
+use Rattle.css_selectors.specs.declared.selector.Op.{Op}
+use Rattle.css_selectors.specs.declared.selector.Op.TheVariants as op
+use Rattle.css_selectors.specs.declared.selector.Pseudo.{Pseudo}
+use Rattle.css_selectors.specs.declared.selector.Relative.{Relative}
+use Rattle.css_selectors.specs.declared.selector.Simple.{Simple}
+use Rattle.css_selectors.specs.declared.selector.Test.{Test}
+use Rattle.css_selectors.specs.declared.selector.Test.TheVariants as v
+use Rattle.css_selectors.specs.declared.selector.Weight.{Weight}
+use Rattle.css_printed.specs.Literals.{literal_text}
+use Rattle.css_printed.specs.Names.{element_text, attribute_text}
+use Rattle.css_printed.specs.Simples.{op_text, nth_text, pseudo_text, lang_text}
+use Rattle.css_printed.specs.TestTexts.{choice, test_said, compound_text, simple_text}
+use Rattle.css_printed.proofs.PrintedAt as at
+use Rattle.css_translate.specs.Inner.{operand_text}
+
+abbrev Name : Type 0
+Name = Option (List ℕ)
+
+module _ (d : Dialect) where
+  pub brackets_element : (n : Name) (around : Name) → (test_said d (v.Element n) around).brackets ≡ codes "[" ++ ((codes "self::" ++ element_text d n) ++ codes "]")
+  brackets_element n around = ap (λ s. s.brackets) (at.said_element d n around)
+
+  pub inside_element : (n : Name) (around : Name) → (test_said d (v.Element n) around).inside ≡ codes "self::" ++ element_text d n
+  inside_element n around = ap (λ s. s.inside) (at.said_element d n around)
+
+  pub brackets_id : (x : List ℕ) (around : Name) → (test_said d (v.Id x) around).brackets ≡ codes "[@id = " ++ (literal_text (encode_utf8_all x) ++ codes "]")
+  brackets_id x around = ap (λ s. s.brackets) (at.said_id d x around)
+
+  pub inside_id : (x : List ℕ) (around : Name) → (test_said d (v.Id x) around).inside ≡ codes "self::*" ++ (test_said d (v.Id x) around).brackets
+  inside_id x around = ap (λ s. s.inside) (at.said_id d x around) ∙ ap (λ s. codes "self::*" ++ s.brackets) (sym (at.said_id d x around))
+
+  pub brackets_class : (x : List ℕ) (around : Name) → (test_said d (v.Class x) around).brackets ≡ op_text (attribute_text d (codes "class")) op.Word x
+  brackets_class x around = ap (λ s. s.brackets) (at.said_class d x around)
+
+  pub inside_class : (x : List ℕ) (around : Name) → (test_said d (v.Class x) around).inside ≡ codes "self::*" ++ (test_said d (v.Class x) around).brackets
+  inside_class x around = ap (λ s. s.inside) (at.said_class d x around) ∙ ap (λ s. codes "self::*" ++ s.brackets) (sym (at.said_class d x around))
+
+  pub brackets_attr : (n : List ℕ) (o : Op) (x : List ℕ) (around : Name) → (test_said d (v.Attr n o x) around).brackets ≡ op_text (attribute_text d n) o x
+  brackets_attr n o x around = ap (λ s. s.brackets) (at.said_attr d n o x around)
+
+  pub inside_attr : (n : List ℕ) (o : Op) (x : List ℕ) (around : Name) → (test_said d (v.Attr n o x) around).inside ≡ codes "self::*" ++ (test_said d (v.Attr n o x) around).brackets
+  inside_attr n o x around = ap (λ s. s.inside) (at.said_attr d n o x around) ∙ ap (λ s. codes "self::*" ++ s.brackets) (sym (at.said_attr d n o x around))
+
+  pub brackets_nth : (k : Nth) (a b : ℤ) (around : Name) → (test_said d (v.Nth k a b) around).brackets ≡ nth_text d around k a b
+  brackets_nth k a b around = ap (λ s. s.brackets) (at.said_nth d k a b around)
+
+  pub inside_nth : (k : Nth) (a b : ℤ) (around : Name) → (test_said d (v.Nth k a b) around).inside ≡ codes "self::*" ++ (test_said d (v.Nth k a b) around).brackets
+  inside_nth k a b around = ap (λ s. s.inside) (at.said_nth d k a b around) ∙ ap (λ s. codes "self::*" ++ s.brackets) (sym (at.said_nth d k a b around))
+
+  pub brackets_pseudo : (p : Pseudo) (around : Name) → (test_said d (v.Pseudo p) around).brackets ≡ pseudo_text d around p
+  brackets_pseudo p around = ap (λ s. s.brackets) (at.said_pseudo d p around)
+
+  pub inside_pseudo : (p : Pseudo) (around : Name) → (test_said d (v.Pseudo p) around).inside ≡ codes "self::*" ++ (test_said d (v.Pseudo p) around).brackets
+  inside_pseudo p around = ap (λ s. s.inside) (at.said_pseudo d p around) ∙ ap (λ s. codes "self::*" ++ s.brackets) (sym (at.said_pseudo d p around))
+
+  pub brackets_contains : (x : List ℕ) (around : Name) → (test_said d (v.Contains x) around).brackets ≡ codes "[contains(., " ++ (literal_text (encode_utf8_all x) ++ codes ")]")
+  brackets_contains x around = ap (λ s. s.brackets) (at.said_contains d x around)
+
+  pub inside_contains : (x : List ℕ) (around : Name) → (test_said d (v.Contains x) around).inside ≡ codes "self::*" ++ (test_said d (v.Contains x) around).brackets
+  inside_contains x around = ap (λ s. s.inside) (at.said_contains d x around) ∙ ap (λ s. codes "self::*" ++ s.brackets) (sym (at.said_contains d x around))
+
+  pub brackets_lang : (x : List ℕ) (around : Name) → (test_said d (v.Lang x) around).brackets ≡ lang_text d x
+  brackets_lang x around = ap (λ s. s.brackets) (at.said_lang d x around)
+
+  pub inside_lang : (x : List ℕ) (around : Name) → (test_said d (v.Lang x) around).inside ≡ codes "self::*" ++ (test_said d (v.Lang x) around).brackets
+  inside_lang x around = ap (λ s. s.inside) (at.said_lang d x around) ∙ ap (λ s. codes "self::*" ++ s.brackets) (sym (at.said_lang d x around))
+
+  pub brackets_any : (w : Weight) (list : List Compound) (around : Name) → (test_said d (v.Any w list) around).brackets ≡ codes "[" ++ (choice (map (λ c. compound_text d c around) list) ++ codes "]")
+  brackets_any w list around = ap (λ s. s.brackets) (at.said_any d w list around)
+
+  pub inside_any : (w : Weight) (list : List Compound) (around : Name) → (test_said d (v.Any w list) around).inside ≡ choice (map (λ c. compound_text d c around) list)
+  inside_any w list around = ap (λ s. s.inside) (at.said_any d w list around)
+
+  pub brackets_has : (list : List Relative) (around : Name) → (test_said d (v.Has list) around).brackets ≡ []
+  brackets_has list around = ap (λ s. s.brackets) (at.said_has d list around)
+
+  pub inside_has : (list : List Relative) (around : Name) → (test_said d (v.Has list) around).inside ≡ codes "self::*" ++ (test_said d (v.Has list) around).brackets
+  inside_has list around = ap (λ s. s.inside) (at.said_has d list around) ∙ ap (λ s. codes "self::*" ++ s.brackets) (sym (at.said_has d list around))
+
+  pub at_negated : (s : Simple) (around : Name) → s.negated ≡ true → simple_text d s around ≡ codes "[not(" ++ ((test_said d s.test around).inside ++ codes ")]")
+  at_negated s around h = at.text_at_simple d s around ∙ ap (λ n. cond n (codes "[not(" ++ ((test_said d s.test around).inside ++ codes ")]")) (test_said d s.test around).brackets) h
+
+  pub at_plain : (s : Simple) (around : Name) → s.negated ≡ false → simple_text d s around ≡ (test_said d s.test around).brackets
+  at_plain s around h = at.text_at_simple d s around ∙ ap (λ n. cond n (codes "[not(" ++ ((test_said d s.test around).inside ++ codes ")]")) (test_said d s.test around).brackets) h
+
+-- ---- choices
+
+abbrev pub is_nil : {A : Type 0} → List A → Bool
+is_nil [] = true
+is_nil (x ∷ xs) = false
+
+pub not_nil : {A : Type 0} (xs : List A) (y : A) → false ≡ is_nil (xs ++ y ∷ [])
+not_nil [] y = refl
+not_nil (x ∷ xs) y = refl
+
+-- one more compound at the end
+pub choice_more : (d : Dialect) (around : Name) (xs : List Compound) (y : Compound)
+    → choice (map (λ c. compound_text d c around) (xs ++ y ∷ [])) ≡ choice (map (λ c. compound_text d c around) xs) ++ operand_text d around (is_nil xs) y
+choice_more d around [] y = refl
+choice_more d around (a ∷ []) y = refl
+choice_more d around (a ∷ (b ∷ xs)) y =
+    ap (λ r. compound_text d a around ++ (codes " or " ++ r)) (choice_more d around (b ∷ xs) y)
+    ∙ sym (append_assoc (compound_text d a around) (codes " or " ++ choice (map (λ c. compound_text d c around) (b ∷ xs))) (operand_text d around false y))

@@ -1,0 +1,13 @@
+use Rattle.std.proofs.Common.{◌≡◌, ◌++◌, take, string_bytes, map}
+use Rattle.std.specs.List.{flat_map}
+use Rattle.css_printed.specs.TestTexts.{choice, compound_text, simple_text}
+use Rattle.css_translate.proofs.Said.{is_nil}
+use Rattle.css_translate.proofs.choices.+printing.Given as goal
+
+abbrev pub invariant-push_simples-loop-simple : goal.invariant-push_simples-loop-simple
+invariant-push_simples-loop-simple l = string_bytes l.out ≡ string_bytes l.fn.out ++ flat_map (λ x. simple_text l.dialect x l.around) (take l.simple-index l.simples)
+
+abbrev pub invariant-push_choice-loop-compound : goal.invariant-push_choice-loop-compound
+invariant-push_choice-loop-compound l =
+    (string_bytes l.out ≡ string_bytes l.fn.out ++ choice (map (λ c. compound_text l.dialect c l.around) (take l.compound-index l.compounds)))
+    × (l.is_first ≡ is_nil (take l.compound-index l.compounds))

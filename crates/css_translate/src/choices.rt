@@ -1,0 +1,238 @@
+ghost use Rattle.std.specs.Prelude.{◌≡◌, ◌++◌, OnOk, string_bytes, flat_map, map, codes};
+ghost use Rattle.css_selectors.specs.WellMade.{innermost};
+ghost use Rattle.css_printed.specs.Names.{element_text};
+ghost use Rattle.css_printed.specs.TestTexts.{choice, test_said, compound_text, simple_text};
+ghost use Rattle.css_translate.specs.Inner.{operand_text};
+
+use crate::languages::push_lang;
+use crate::names::push_element;
+use crate::positions::push_nth;
+use crate::pseudo::push_pseudo;
+use crate::pushing::push;
+use crate::simples::{
+    push_attribute_test, push_class, push_contains, push_id, push_named, push_self,
+};
+use css_selectors::{Compound, Dialect, Simple, Test};
+use std::alloc::Global;
+use text_base::{NoMemory, Txt};
+
+/// The name that counts inside a compound: its own, or that around it.
+fn innermost<'a>(around: &'a Option<Txt>, element: &'a Option<Txt>) -> &'a Option<Txt>
+    ensures { result.now ≡ innermost around.now element.now }
+{
+    match element {
+        None => around,
+        Some(_) => element,
+    }
+}
+
+/// Appends the predicates of a test that is not negated.
+#[cycle(printing)]
+#[tactic(auto, using(crate::proofs::Said::brackets_element, crate::proofs::Said::brackets_id, crate::proofs::Said::brackets_class, crate::proofs::Said::brackets_attr, crate::proofs::Said::brackets_nth, crate::proofs::Said::brackets_pseudo, crate::proofs::Said::brackets_contains, crate::proofs::Said::brackets_lang, crate::proofs::Said::brackets_any, crate::proofs::Said::brackets_has))]
+fn push_brackets(
+    alloc: Global,
+    out: &mut String,
+    dialect: Dialect,
+    around: &Option<Txt>,
+    test: &Test,
+) -> Result<(), NoMemory>
+    ensures { OnOk result (string_bytes out.new ≡ string_bytes out.old ++ (test_said dialect test.now around.now).brackets) }
+{
+    match test {
+        Test::Element(name) => push_named(alloc, out, dialect, name),
+        Test::Id(value) => push_id(out, value),
+        Test::Class(value) => push_class(alloc, out, dialect, value),
+        Test::Attr(name, op, value) => push_attribute_test(alloc, out, dialect, name, *op, value),
+        Test::Nth(kind, a, b) => push_nth(alloc, out, dialect, around, *kind, *a, *b),
+        Test::Pseudo(which) => push_pseudo(alloc, out, dialect, around, *which),
+        Test::Contains(value) => push_contains(out, value),
+        Test::Lang(tag) => push_lang(alloc, out, dialect, tag),
+        Test::Any(_, list) => push_any(alloc, out, dialect, around, list.as_slice()),
+        Test::Has(_) => Ok(()),
+    }
+}
+
+/// A choice in brackets.
+#[cycle(printing)]
+fn push_any(
+    alloc: Global,
+    out: &mut String,
+    dialect: Dialect,
+    around: &Option<Txt>,
+    compounds: &[Compound],
+) -> Result<(), NoMemory>
+    ensures { OnOk result (string_bytes out.new ≡ string_bytes out.old ++ (codes "[" ++ (choice (map (λ c. compound_text dialect c around.now) compounds.now) ++ codes "]"))) }
+{
+    push(out, "[")?;
+    push_choice(alloc, out, dialect, around, compounds)?;
+    push(out, "]")
+}
+
+/// The predicates of a test, at the element itself: `self::*[..]`
+#[cycle(printing)]
+fn push_itself(
+    alloc: Global,
+    out: &mut String,
+    dialect: Dialect,
+    around: &Option<Txt>,
+    test: &Test,
+) -> Result<(), NoMemory>
+    ensures { OnOk result (string_bytes out.new ≡ string_bytes out.old ++ (codes "self::*" ++ (test_said dialect test.now around.now).brackets)) }
+{
+    push(out, "self::*")?;
+    push_brackets(alloc, out, dialect, around, test)
+}
+
+/// Appends what stands in the negation of a test.
+#[cycle(printing)]
+#[tactic(auto, using(crate::proofs::Said::inside_element, crate::proofs::Said::inside_id, crate::proofs::Said::inside_class, crate::proofs::Said::inside_attr, crate::proofs::Said::inside_nth, crate::proofs::Said::inside_pseudo, crate::proofs::Said::inside_contains, crate::proofs::Said::inside_lang, crate::proofs::Said::inside_any, crate::proofs::Said::inside_has))]
+fn push_inside(
+    alloc: Global,
+    out: &mut String,
+    dialect: Dialect,
+    around: &Option<Txt>,
+    test: &Test,
+) -> Result<(), NoMemory>
+    ensures { OnOk result (string_bytes out.new ≡ string_bytes out.old ++ (test_said dialect test.now around.now).inside) }
+{
+    match test {
+        Test::Element(name) => push_self(alloc, out, dialect, name),
+        Test::Id(_) => push_itself(alloc, out, dialect, around, test),
+        Test::Class(_) => push_itself(alloc, out, dialect, around, test),
+        Test::Attr(_, _, _) => push_itself(alloc, out, dialect, around, test),
+        Test::Nth(_, _, _) => push_itself(alloc, out, dialect, around, test),
+        Test::Pseudo(_) => push_itself(alloc, out, dialect, around, test),
+        Test::Contains(_) => push_itself(alloc, out, dialect, around, test),
+        Test::Lang(_) => push_itself(alloc, out, dialect, around, test),
+        Test::Any(_, list) => push_choice(alloc, out, dialect, around, list.as_slice()),
+        Test::Has(_) => push_itself(alloc, out, dialect, around, test),
+    }
+}
+
+/// `[not(..)]`
+#[cycle(printing)]
+fn push_negated(
+    alloc: Global,
+    out: &mut String,
+    dialect: Dialect,
+    around: &Option<Txt>,
+    test: &Test,
+) -> Result<(), NoMemory>
+    ensures { OnOk result (string_bytes out.new ≡ string_bytes out.old ++ (codes "[not(" ++ ((test_said dialect test.now around.now).inside ++ codes ")]"))) }
+{
+    push(out, "[not(")?;
+    push_inside(alloc, out, dialect, around, test)?;
+    push(out, ")]")
+}
+
+/// Appends the predicates of a simple selector, where the innermost compound around it that has an
+/// element has this one.
+#[cycle(printing)]
+#[tactic(auto, using(crate::proofs::Said::at_negated, crate::proofs::Said::at_plain))]
+fn push_simple(
+    alloc: Global,
+    out: &mut String,
+    dialect: Dialect,
+    around: &Option<Txt>,
+    simple: &Simple,
+) -> Result<(), NoMemory>
+    ensures { OnOk result (string_bytes out.new ≡ string_bytes out.old ++ simple_text dialect simple.now around.now) }
+{
+    if simple.negated {
+        push_negated(alloc, out, dialect, around, &simple.test)
+    } else {
+        push_brackets(alloc, out, dialect, around, &simple.test)
+    }
+}
+
+/// Appends the predicates of simple selectors.
+#[cycle(printing)]
+pub fn push_simples(
+    alloc: Global,
+    out: &mut String,
+    dialect: Dialect,
+    around: &Option<Txt>,
+    simples: &[Simple],
+) -> Result<(), NoMemory>
+    ensures { OnOk result (string_bytes out.new ≡ string_bytes out.old ++ flat_map (λ x. simple_text dialect x around.now) simples.now) }
+{
+    for simple in simples {
+        push_simple(alloc, out, dialect, around, simple)?;
+    }
+    Ok(())
+}
+
+/// `self::name` and the predicates of the simple selectors.
+#[cycle(printing)]
+fn push_self_and(
+    alloc: Global,
+    out: &mut String,
+    dialect: Dialect,
+    around: &Option<Txt>,
+    element: &Option<Txt>,
+    simples: &[Simple],
+) -> Result<(), NoMemory>
+    ensures { OnOk result (string_bytes out.new ≡ string_bytes out.old ++ (codes "self::" ++ (element_text dialect element.now ++ flat_map (λ x. simple_text dialect x (innermost around.now element.now)) simples.now))) }
+{
+    push(out, "self::")?;
+    push_element(alloc, out, dialect, element)?;
+    push_simples(alloc, out, dialect, innermost(around, element), simples)
+}
+
+#[cycle(printing)]
+#[tactic(auto, using(css_printed::proofs::PrintedAt::text_at_compound))]
+fn push_compound(
+    alloc: Global,
+    out: &mut String,
+    dialect: Dialect,
+    around: &Option<Txt>,
+    compound: &Compound,
+) -> Result<(), NoMemory>
+    ensures { OnOk result (string_bytes out.new ≡ string_bytes out.old ++ compound_text dialect compound.now around.now) }
+{
+    push_self_and(
+        alloc,
+        out,
+        dialect,
+        around,
+        &compound.element,
+        compound.simples.as_slice(),
+    )
+}
+
+/// A compound of a choice, with ` or ` before it unless it is the first.
+#[cycle(printing)]
+fn push_operand(
+    alloc: Global,
+    out: &mut String,
+    dialect: Dialect,
+    around: &Option<Txt>,
+    is_first: bool,
+    compound: &Compound,
+) -> Result<(), NoMemory>
+    ensures { OnOk result (string_bytes out.new ≡ string_bytes out.old ++ operand_text dialect around.now is_first compound.now) }
+{
+    if !is_first {
+        push(out, " or ")?;
+    }
+    push_compound(alloc, out, dialect, around, compound)
+}
+
+/// Appends compounds with ` or ` between.
+#[cycle(printing)]
+fn push_choice(
+    alloc: Global,
+    out: &mut String,
+    dialect: Dialect,
+    around: &Option<Txt>,
+    compounds: &[Compound],
+) -> Result<(), NoMemory>
+    ensures { OnOk result (string_bytes out.new ≡ string_bytes out.old ++ choice (map (λ c. compound_text dialect c around.now) compounds.now)) }
+{
+    let mut is_first = true;
+    for compound in compounds {
+        push_operand(alloc, out, dialect, around, is_first, compound)?;
+        is_first = false;
+    }
+    Ok(())
+}
