@@ -6,7 +6,7 @@ ghost use Rattle.css_translate.specs.Inner.{operand_text};
 
 use crate::languages::push_lang;
 use crate::names::push_element;
-use crate::positions::push_nth;
+use crate::positions::push_position;
 use crate::pseudo::push_pseudo;
 use crate::pushing::push;
 use crate::simples::{
@@ -43,7 +43,7 @@ fn push_brackets(
         Test::Id(value) => push_id(out, value),
         Test::Class(value) => push_class(alloc, out, dialect, value),
         Test::Attr(name, op, value) => push_attribute_test(alloc, out, dialect, name, *op, value),
-        Test::Nth(kind, a, b) => push_nth(alloc, out, dialect, around, *kind, *a, *b),
+        Test::Nth(kind, a, b) => push_position(alloc, out, dialect, around, kind, a, b),
         Test::Pseudo(which) => push_pseudo(alloc, out, dialect, around, *which),
         Test::Contains(value) => push_contains(out, value),
         Test::Lang(tag) => push_lang(alloc, out, dialect, tag),

@@ -221,3 +221,18 @@ pub fn push_nth(
     push_siblings(alloc, &mut siblings, dialect, element, kind)?;
     push_positions(alloc, out, siblings.as_str(), a, b)
 }
+
+/// Appends the predicates of a position, as a test has its numbers.
+pub fn push_position(
+    alloc: Global,
+    out: &mut String,
+    dialect: Dialect,
+    element: &Option<Txt>,
+    kind: &Nth,
+    a: &i64,
+    b: &i64,
+) -> Result<(), NoMemory>
+    ensures { OnOk result (string_bytes out.new ≡ string_bytes out.old ++ nth_text dialect element.now kind.now a.now b.now) }
+{
+    push_nth(alloc, out, dialect, element, *kind, *a, *b)
+}

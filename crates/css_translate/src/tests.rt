@@ -1,8 +1,11 @@
 ghost use Rattle.std.specs.Prelude.{◌≡◌, IfOk};
-ghost use Rattle.css_translate.specs.Rows.{one_simple, FitsAlone};
+ghost use Rattle.css_selectors.specs.WellMade.{WellMade};
+ghost use Rattle.css_translate.specs.Rows.{one_compound, one_simple};
 
 use crate::{literal, translate};
-use css_selectors::{Dialect, Link, Nth, Op, Part, Selector, SelectorList, Simple, Tail, Test};
+use css_selectors::{
+    Compound, Dialect, Link, Nth, Op, Part, Selector, SelectorList, Simple, Tail, Test, Weight,
+};
 use std::alloc::Global;
 use std::test::Fail;
 use text_base::{NoMemory, Seq, Txt};
@@ -34,7 +37,7 @@ fn simple_list(
     })
 }
 
-#[tactic(auto, using(crate::proofs::Rows::one_made))]
+#[tactic(auto, using(crate::proofs::Rows::same_made))]
 fn shown(
     alloc: Global,
     dialect: Dialect,
@@ -42,13 +45,14 @@ fn shown(
     negated: bool,
     test: Test,
 ) -> Result<String, Fail>
-    requires { FitsAlone element negated test }
+    requires { WellMade (one_simple element negated test) }
 {
     let list = simple_list(alloc, element, negated, test)?;
     Ok(translate(alloc, dialect, &list)?)
 }
 
 /// `a[title="it's \22 x\22"]`
+#[tactic(auto, using(crate::proofs::Rows::attr_made))]
 fn both_quotes(alloc: Global) -> Result<String, Fail> {
     let a = Txt::of(alloc, "a")?;
     let title = Txt::of(alloc, "title")?;
@@ -63,6 +67,7 @@ fn both_quotes(alloc: Global) -> Result<String, Fail> {
 }
 
 /// `li:nth-child(3n-4)`
+#[tactic(auto, using(crate::proofs::Rows::nth_made))]
 fn third(alloc: Global) -> Result<String, Fail> {
     let li = Txt::of(alloc, "li")?;
     shown(
@@ -75,6 +80,7 @@ fn third(alloc: Global) -> Result<String, Fail> {
 }
 
 /// `li:not(:last-of-type)`
+#[tactic(auto, using(crate::proofs::Rows::nth_made))]
 fn not_last(alloc: Global) -> Result<String, Fail> {
     let li = Txt::of(alloc, "li")?;
     shown(
@@ -83,6 +89,37 @@ fn not_last(alloc: Global) -> Result<String, Fail> {
         Some(li),
         true,
         Test::Nth(Nth::LastOfType, 0, 1),
+    )
+}
+
+/// A choice of one compound with one simple.
+fn choice_of(alloc: Global, test: Test) -> Result<Seq<Compound>, NoMemory>
+    ensures { IfOk result (λ choice. choice ≡ one_compound test) }
+{
+    let mut simples = Vec::new(alloc);
+    simples.push(Simple {
+        negated: false,
+        test,
+    })?;
+    let mut compounds = Vec::new(alloc);
+    compounds.push(Compound {
+        element: None,
+        simples: Seq::from_vec(simples),
+    })?;
+    Ok(Seq::from_vec(compounds))
+}
+
+/// `li:is(:first-of-type)`
+#[tactic(auto, using(crate::proofs::Rows::choice_made))]
+fn first_of_name(alloc: Global) -> Result<String, Fail> {
+    let li = Txt::of(alloc, "li")?;
+    let choice = choice_of(alloc, Test::Nth(Nth::OfType, 0, 1))?;
+    shown(
+        alloc,
+        Dialect::Html,
+        Some(li),
+        false,
+        Test::Any(Weight::Most, choice),
     )
 }
 
@@ -101,6 +138,10 @@ fn prints(rt: HostRuntime) -> Result<(), Fail> {
         (
             not_last(alloc)?,
             "descendant-or-self::li[not(self::*[count(following-sibling::li) = 0])]",
+        ),
+        (
+            first_of_name(alloc)?,
+            "descendant-or-self::li[self::*[count(preceding-sibling::li) = 0]]",
         ),
     ] {
         assert_eq!(rt; text.as_str(), want);

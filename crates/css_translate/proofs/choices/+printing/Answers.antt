@@ -27,7 +27,7 @@ push_choice-loop-compound-preserved t c =
 pub push_brackets-returns-in-Nth : goal.push_brackets-returns-in-Nth
 push_brackets-returns-in-Nth t c =
     same_piece _ _ _ _ _
-    (sym (ap (λ u. (test_said c.args.dialect u c.args.around.now).brackets) c.in-Nth.is ∙ said.brackets_nth c.args.dialect _ _ _ c.args.around.now)) c.push_nth.ensures
+    (sym (ap (λ u. (test_said c.args.dialect u c.args.around.now).brackets) c.in-Nth.is ∙ said.brackets_nth c.args.dialect _ _ _ c.args.around.now)) c.push_position.ensures
 
 pub push_brackets-returns-in-Has : goal.push_brackets-returns-in-Has
 push_brackets-returns-in-Has t c =
