@@ -1,11 +1,14 @@
 -- The lists of the tests are well made.
-use Rattle.std.proofs.Common.{◌≡◌, ◌∙◌, ℕ, ◌+◌, ◌<◌, ◌≤◌, ◌^◌, ℤ, Bool, true, false, List, [], ◌∷◌, Option, None, refl, arith, ap, sym, subst, sum_by}
+use Rattle.std.proofs.Common.{◌≡◌, ◌∙◌, ℕ, ◌+◌, ◌<◌, ◌≤◌, ◌^◌, ℤ, Bool, true, false, List, [], ◌∷◌, Option, Some, None, refl, arith, ap, sym, subst, sum_by}
+use Rattle.std.specs.Prelude.{pos, negsuc}
 use Rattle.std.proofs.lemmas.List.Elements.{All-nil}
 use Rattle.std.proofs.lemmas.List.Sums.{sum_by-cons}
 use Rattle.css_selectors.specs.declared.selector.Compound.{Compound, out-Compound}
 use Rattle.css_selectors.specs.declared.selector.Link.TheVariants as link
 use Rattle.css_selectors.specs.declared.selector.Nth.{Nth}
+use Rattle.css_selectors.specs.declared.selector.Nth.TheVariants as nth
 use Rattle.css_selectors.specs.declared.selector.Op.{Op}
+use Rattle.css_selectors.specs.declared.selector.Op.TheVariants as op
 use Rattle.css_selectors.specs.declared.selector.Part.{Part, out-Part}
 use Rattle.css_selectors.specs.declared.selector.Relative.{Relative}
 use Rattle.css_selectors.specs.declared.selector.SelectorList.{SelectorList}
@@ -66,7 +69,7 @@ made n b t l is h few = record { some = omega arith; each = one IsSelector (sing
       size = small n b t few;
     }
 
-pub attr_made : (n : Option (List ℕ)) (b : Bool) (name : List ℕ) (o : Op) (x : List ℕ) → FitsOp o x → WellMade (one_simple n b (v.Attr name o x))
+attr_made : (n : Option (List ℕ)) (b : Bool) (name : List ℕ) (o : Op) (x : List ℕ) → FitsOp o x → WellMade (one_simple n b (v.Attr name o x))
 attr_made n b name o x h =
     let e : test_size (v.Attr name o x) ≡ 0 = ap test_size (sym (v.rolls-Attr name o x)) ∙ layer_size (open_.Attr name o x) in
     made n b (v.Attr name o x) (open_.Attr name o x) (v.rolls-Attr name o x) h (omega arith)
@@ -74,13 +77,13 @@ attr_made n b name o x h =
 nth_size : (k : Nth) (x y : ℤ) → test_size (v.Nth k x y) ≡ 0
 nth_size k x y = ap test_size (sym (v.rolls-Nth k x y)) ∙ layer_size (open_.Nth k x y)
 
-pub nth_made : (n : Option (List ℕ)) (b : Bool) (k : Nth) (x y : ℤ) → IsSmall x → IsSmall y → FitsKind n k → WellMade (one_simple n b (v.Nth k x y))
+nth_made : (n : Option (List ℕ)) (b : Bool) (k : Nth) (x y : ℤ) → IsSmall x → IsSmall y → FitsKind n k → WellMade (one_simple n b (v.Nth k x y))
 nth_made n b k x y h g f =
     let e : test_size (v.Nth k x y) ≡ 0 = nth_size k x y in
     made n b (v.Nth k x y) (open_.Nth k x y) (v.rolls-Nth k x y) (h, g, f) (omega arith)
 
 -- the name of the part counts inside the choice
-pub choice_made : (n : Option (List ℕ)) (b : Bool) (w : Weight) (k : Nth) (x y : ℤ) → IsSmall x → IsSmall y → FitsKind n k → WellMade (one_simple n b (v.Any w (one_compound (v.Nth k x y))))
+choice_made : (n : Option (List ℕ)) (b : Bool) (w : Weight) (k : Nth) (x y : ℤ) → IsSmall x → IsSmall y → FitsKind n k → WellMade (one_simple n b (v.Any w (one_compound (v.Nth k x y))))
 choice_made n b w k x y h g f =
     let t : Test = v.Nth k x y in
     let c : Compound = compound None (is t ∷ []) in
@@ -99,3 +102,23 @@ choice_made n b w k x y h g f =
 
 pub same_made : (list : SelectorList) (n : Option (List ℕ)) (b : Bool) (t : Test) → WellMade (one_simple n b t) → list ≡ one_simple n b t → WellMade list
 same_made list n b t h e = subst WellMade (sym e) h
+
+-- ---- the tests' own
+
+pub equals_made : (n : Option (List ℕ)) (b : Bool) (name x : List ℕ) → WellMade (one_simple n b (v.Attr name op.Equals x))
+equals_made n b name x = attr_made n b name op.Equals x tt
+
+pub third_made : (n : Option (List ℕ)) (b : Bool) → WellMade (one_simple n b (v.Nth nth.Child (pos 3) (negsuc 3)))
+third_made n b = nth_made n b nth.Child (pos 3) (negsuc 3) (omega arith) (omega arith) tt
+
+none_small : IsSmall (pos 0)
+none_small = omega arith
+
+one_small : IsSmall (pos 1)
+one_small = omega arith
+
+pub last_made : (x : List ℕ) (b : Bool) → WellMade (one_simple (Some x) b (v.Nth nth.LastOfType (pos 0) (pos 1)))
+last_made x b = nth_made (Some x) b nth.LastOfType (pos 0) (pos 1) none_small one_small refl
+
+pub first_made : (x : List ℕ) (b : Bool) (w : Weight) → WellMade (one_simple (Some x) b (v.Any w (one_compound (v.Nth nth.OfType (pos 0) (pos 1)))))
+first_made x b w = choice_made (Some x) b w nth.OfType (pos 0) (pos 1) none_small one_small refl

@@ -52,7 +52,6 @@ fn shown(
 }
 
 /// `a[title="it's \22 x\22"]`
-#[tactic(auto, using(crate::proofs::Rows::attr_made))]
 fn both_quotes(alloc: Global) -> Result<String, Fail> {
     let a = Txt::of(alloc, "a")?;
     let title = Txt::of(alloc, "title")?;
@@ -67,7 +66,6 @@ fn both_quotes(alloc: Global) -> Result<String, Fail> {
 }
 
 /// `li:nth-child(3n-4)`
-#[tactic(auto, using(crate::proofs::Rows::nth_made))]
 fn third(alloc: Global) -> Result<String, Fail> {
     let li = Txt::of(alloc, "li")?;
     shown(
@@ -80,7 +78,6 @@ fn third(alloc: Global) -> Result<String, Fail> {
 }
 
 /// `li:not(:last-of-type)`
-#[tactic(auto, using(crate::proofs::Rows::nth_made))]
 fn not_last(alloc: Global) -> Result<String, Fail> {
     let li = Txt::of(alloc, "li")?;
     shown(
@@ -110,7 +107,6 @@ fn choice_of(alloc: Global, test: Test) -> Result<Seq<Compound>, NoMemory>
 }
 
 /// `li:is(:first-of-type)`
-#[tactic(auto, using(crate::proofs::Rows::choice_made))]
 fn first_of_name(alloc: Global) -> Result<String, Fail> {
     let li = Txt::of(alloc, "li")?;
     let choice = choice_of(alloc, Test::Nth(Nth::OfType, 0, 1))?;
