@@ -170,6 +170,10 @@ IsChainValue limits doc x (chain.Steps steps end) v =
 abbrev pub field_limits : Limits
 field_limits = record { items = 1000000; bytes = 8388608 }
 
+-- the value of a field whose chain starts with row x
+abbrev pub IsValueAt : Document → ℕ → Field → FieldValue → Type 0
+IsValueAt doc x field v = IsChainValue field_limits doc x field.chain v
+
 -- the value of a field, from the root node
 abbrev pub IsValue : Document → Field → FieldValue → Type 0
-IsValue doc field v = IsChainValue field_limits doc 0 field.chain v
+IsValue doc field v = IsValueAt doc 0 field v

@@ -10,7 +10,7 @@ use Rattle.query_script.specs.declared.script.FieldValue.TheVariants as value
 use Rattle.query_script.specs.declared.script.Reason.{Reason}
 use Rattle.query_script.specs.declared.script.Reason.TheVariants as reason
 use Rattle.query_script.specs.declared.script.Take.{Take}
-use Rattle.query_chain.specs.Chains.{Action, AreActions, is_refused, answer, field_limits, IsChainValue}
+use Rattle.query_chain.specs.Chains.{Action, AreActions, is_refused, answer, field_limits}
 
 -- nothing, since the field is refused, or some actions one after the other
 pub data Task : Type 0 where
@@ -25,6 +25,7 @@ IsChainTask (chain.Refused why) (does actions end) = ⊥
 IsChainTask (chain.Steps steps taken) (refuses w) = (list_any is_refused steps ≡ true) × (w ≡ reason.Pattern)
 IsChainTask (chain.Steps steps taken) (does actions end) = AreActions steps actions × (end ≡ taken)
 
+-- the task of a field
 abbrev pub IsTask : Field → Task → Type 0
 IsTask field task = IsChainTask field.chain task
 
@@ -32,7 +33,3 @@ IsTask field task = IsChainTask field.chain task
 abbrev pub outcome : Document → ℕ → Task → FieldValue
 outcome doc x (refuses why) = value.Refused why
 outcome doc x (does actions end) = answer field_limits doc x actions end
-
--- the value of a field whose chain starts with row x; that from row 0 is `IsValue`
-abbrev pub IsValueAt : Document → ℕ → Field → FieldValue → Type 0
-IsValueAt doc x field v = IsChainValue field_limits doc x field.chain v

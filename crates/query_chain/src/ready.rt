@@ -42,7 +42,8 @@ impl Model for Ready {
     ghost invariant = { λ r. IsSound r.chain };
 }
 
-/// Reads the queries of a field and builds its patterns, once for all the rows and documents on which it is to run.
+/// Reads the queries of a field and builds its patterns, once for all the rows and documents on which it is to run. The only
+/// error is want of memory, and a pattern that takes more of it than `regex` allows is one such.
 pub fn prepare(alloc: Global, field: &Field) -> Result<Ready, NoMemory>
     requires { IsOrdered field.now }
     ensures { IfOk result (IsTask field.now) }

@@ -17,7 +17,7 @@ pub enum ReadyStep {
     Match(Regex),
 }
 
-/// Reads the step's query, or builds its pattern.
+/// Reads the step's query, or builds its pattern. It is Pattern only where the step searches for what is no pattern.
 fn prepare_step(alloc: Global, step: &ChainStep) -> Result<ReadyStep, BuildFault>
     requires { IsReadable step.now }
     ensures ready { IfOk result (IsReady step.now) }
@@ -32,7 +32,7 @@ fn prepare_step(alloc: Global, step: &ChainStep) -> Result<ReadyStep, BuildFault
     }
 }
 
-/// Reads and builds all steps, from left to right.
+/// Reads and builds all steps, from left to right. It is Pattern only where one of them searches for what is no pattern.
 pub fn prepare_all(alloc: Global, steps: &[ChainStep]) -> Result<Vec<ReadyStep>, BuildFault>
     requires { All IsReadable steps.now }
     ensures ready { IfOk result (λ v. AreReady steps.now v.items) }

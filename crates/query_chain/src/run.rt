@@ -2,8 +2,8 @@
 ghost use Rattle.std.specs.Prelude.{◌≡◌, ◌<◌, length, IfOk};
 ghost use Rattle.query_script.specs.Ordered.{IsOrdered};
 ghost use Rattle.query_script.specs.declared.script.Field.{Field};
-ghost use Rattle.query_chain.specs.Chains.{IsValue};
-ghost use Rattle.query_chain.specs.Tasks.{IsTask, IsValueAt, outcome};
+ghost use Rattle.query_chain.specs.Chains.{IsValue, IsValueAt};
+ghost use Rattle.query_chain.specs.Tasks.{IsTask, outcome};
 
 use crate::limits::{Limits, Stop};
 use crate::ready::{Ready, ReadyChain, prepare};
