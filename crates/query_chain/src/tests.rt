@@ -1,10 +1,11 @@
 ghost use Rattle.std.specs.Prelude.{◌≡◌, ◌+◌, ◌<◌, ◌≤◌, length, OnOk};
 ghost use Rattle.doc_model.specs.Growing.{AwaitsText};
+ghost use Rattle.query_script.specs.Ordered.{IsOrdered};
 
-use crate::run_field;
+use crate::{prepare, run_field, run_ready_at};
 use css_meaning::Dialect;
 use doc_model::{Axes, Grow, Piece, Plain, VecGrow, VecTree};
-use query_script::{FieldValue, parse_script};
+use query_script::{Field, FieldValue, parse_script};
 use std::alloc::Global;
 use std::test::Fail;
 use text_base::{NoMemory, Txt};
@@ -217,6 +218,46 @@ fn gives_values(rt: HostRuntime) -> Result<(), Fail> {
         let got = run(rt.alloc(), steps, script)?;
         assert_eq!(rt; got.as_str(), want, "{script}");
     }
+    Ok(())
+}
+
+/// The values of a field that is prepared once: on two pages from the root node, and on the second from row 2.
+fn values_of_one<S: Axes>(
+    alloc: Global,
+    first: &S,
+    second: &S,
+    field: &Field,
+    out: &mut String,
+) -> Result<(), NoMemory>
+    requires { IsOrdered field.now }
+{
+    let ready = prepare(alloc, field)?;
+    shown(&run_ready_at(alloc, first, &ready, 0)?, out)?;
+    shown(&run_ready_at(alloc, second, &ready, 0)?, out)?;
+    if second.len() <= 2 {
+        return Err(NoMemory);
+    }
+    shown(&run_ready_at(alloc, second, &ready, 2)?, out)
+}
+
+#[test]
+fn serves_each_page_and_row(rt: HostRuntime) -> Result<(), Fail> {
+    let alloc = rt.alloc();
+    let first = Plain::new(build(alloc, &NESTED[..])?);
+    let second = Plain::new(build(alloc, &NEXT[..])?);
+    let Ok(script) = parse_script(
+        alloc,
+        Dialect::Html,
+        "t: xpath('.//text()').re('[a-z0-9]').getall(); n: xpath('name()').get(); w: re('(').get()",
+    ) else {
+        return Err(NoMemory.into());
+    };
+    let mut out = String::new(alloc);
+    for field in script.fields.as_slice() {
+        values_of_one(alloc, &first, &second, field, &mut out)?;
+        out.push_str(";")?;
+    }
+    assert_eq!(rt; out.as_str(), "|x|1|2|1;p;PatternPatternPattern;");
     Ok(())
 }
 
