@@ -32,12 +32,6 @@ map_more f (x ∷ xs) (suc i) d h =
     let one : suc i + 1 ≡ suc (i + 1) = omega arith in
     rw one (ap (λ r. f x ∷ r) (map_more f xs i d (omega arith)))
 
-pub all_taken : {X : Type 0} (xs : List X) (i : ℕ) → length xs ≤ i → take i xs ≡ xs
-all_taken [] zero h = refl
-all_taken [] (suc i) h = refl
-all_taken (x ∷ xs) zero h = absurd (omega (arith, h))
-all_taken (x ∷ xs) (suc i) h = ap (λ r. x ∷ r) (all_taken xs i (omega arith))
-
 -- what is left of a limit, after one text more
 pub left_more : (left limit len : ℕ) (old new : List (List ℕ)) (t : List ℕ) → new ≡ old ++ t ∷ [] → len ≡ length (encode_utf8_all t) → len ≤ left → left + bytes_of old ≡ limit →
     left - len + bytes_of new ≡ limit

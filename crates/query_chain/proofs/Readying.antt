@@ -3,7 +3,7 @@ use Rattle.std.proofs.Common.{◌≡◌, ℕ, zero, suc, ◌+◌, ◌<◌, ◌�
 use Rattle.std.specs.Prelude.{All, IsSomeAnd, Option, Some, None, encode_utf8_all}
 use Rattle.std.specs.Str.{chars}
 use Rattle.std.specs.List.{AllByRecursion}
-use Rattle.std.proofs.lemmas.List.{take_more}
+use Rattle.std.proofs.lemmas.List.{take_more, take_all}
 use Rattle.regex.specs.declared.string.regex.Regex.{Regex}
 use Rattle.query_script.specs.declared.script.ChainStep.{ChainStep}
 use Rattle.query_script.specs.declared.script.ChainStep.TheVariants as step
@@ -15,7 +15,6 @@ use Rattle.query_chain.specs.Chains.{Action, select, search, is_pattern, IsActio
 use Rattle.query_chain.specs.Patterns.{Pattern, pattern_of}
 use Rattle.query_chain.specs.Readiness.{IsReadable, IsReady, AreReady}
 use Rattle.query_chain.specs.Steps.{action_of, IsUsable}
-use Rattle.query_chain.proofs.Lists.{all_taken}
 
 more_ready : (steps : List ChainStep) (rs : List ReadyStep) (s : ChainStep) (r : ReadyStep) → AreReady steps rs → IsReady s r → AreReady (steps ++ s ∷ []) (rs ++ r ∷ [])
 more_ready [] [] s r h k = (k, tt)
@@ -31,7 +30,7 @@ ready_more steps i old new s r h at e before one =
     subst (λ rs. AreReady (take (i + 1) steps) rs) (sym e) (subst (λ ss. AreReady ss (old ++ r ∷ [])) (sym front) (more_ready (take i steps) old s r before one))
 
 pub all_ready : (steps : List ChainStep) (i : ℕ) (rs : List ReadyStep) → length steps ≤ i → AreReady (take i steps) rs → AreReady steps rs
-all_ready steps i rs h a = subst (λ ss. AreReady ss rs) (all_taken steps i h) a
+all_ready steps i rs h a = subst (λ ss. AreReady ss rs) (take_all i steps h) a
 
 -- what is built is a pattern
 built_pattern : (r : Regex) (o : Option Pattern) → IsSomeAnd o (Stands r) → is_some o ≡ true

@@ -4,7 +4,7 @@ use Rattle.std.specs.Prelude.{slice_range, if◌then◌else◌, nat_le, IsSomeAn
 use Rattle.std.specs.List.{range_with_len}
 use Rattle.std.specs.Option.{option_map_or}
 use Rattle.std.specs.Str.{chars}
-use Rattle.std.proofs.lemmas.List.{length-append, length-map, append-nil}
+use Rattle.std.proofs.lemmas.List.{length-append, length-map, append-nil, take_all}
 use Rattle.regex.specs.Patterns.{Re, Match, find_all_str, SameCaptures}
 use Rattle.regex.specs.Writes.{both}
 use Rattle.regex.specs.Strings.{regex_pattern, regex_names}
@@ -17,7 +17,7 @@ use Rattle.query_chain.specs.Found.{IsNew, Adds}
 use Rattle.query_chain.specs.Patterns.{Pattern, pattern_of, texts_of, match_texts, matched, found_texts}
 use Rattle.query_chain.specs.Built.{Stands, IsBuilt}
 use Rattle.query_chain.proofs.Adding.{adds_both}
-use Rattle.query_chain.proofs.Lists.{flat_split, flat_more, all_taken}
+use Rattle.query_chain.proofs.Lists.{flat_split, flat_more}
 
 -- the same texts, from what a caller sees of a match
 abbrev seen_texts : ℕ → List ℕ → ℕ × ℕ × (ℕ → Option ℕ) → List (List ℕ)
@@ -68,7 +68,7 @@ found_many limits f g source ts i t n low at e new before more =
 -- what was found in all texts
 pub found_all : (limits : Limits) (f g : Found) (source : List ℕ) (ts : List (List ℕ)) (i : ℕ) → length ts ≤ i → Adds limits f g (flat_map (found_texts source) (take i ts)) →
     Adds limits f g (flat_map (found_texts source) ts)
-found_all limits f g source ts i h a = subst (λ xs. Adds limits f g (flat_map (found_texts source) xs)) (all_taken ts i h) a
+found_all limits f g source ts i h a = subst (λ xs. Adds limits f g (flat_map (found_texts source) xs)) (take_all i ts h) a
 
 pub all_kept : (limits : Limits) (f g : Found) (xs : List (List ℕ)) → IsNew f → Adds limits f g xs → g.is_over ≡ false → (g.texts.items ≡ xs) × (length xs ≤ limits.items) × (bytes_of xs ≤ limits.bytes)
 all_kept limits f g xs new a is =

@@ -1,7 +1,7 @@
 -- What a query gives at rows, one after the other.
 use Rattle.std.proofs.Common.{◌≡◌, ℕ, zero, suc, ◌+◌, ◌-◌, ◌<◌, ◌≤◌, ◌++◌, Bool, true, false, List, [], ◌∷◌, map, length, take, drop, get_or, refl, sym, ◌∙◌, ap, subst, arith, encode_utf8_all}
 use Rattle.std.specs.Prelude.{flat_map, All}
-use Rattle.std.proofs.lemmas.List.{length-append, length-map, map-append}
+use Rattle.std.proofs.lemmas.List.{length-append, length-map, map-append, take_all}
 use Rattle.std.proofs.lemmas.List.Folds.{flat_map-map}
 use Rattle.std.proofs.lemmas.List.Elements.{All-append}
 use Rattle.std.proofs.lemmas.List.Sums.{sum_by_push}
@@ -18,7 +18,7 @@ use Rattle.query_chain.specs.Chains.{Action, select, gives, step_items, value_it
 use Rattle.query_chain.specs.Items.{Item, node, text, strings, bytes_of}
 use Rattle.query_chain.specs.Values.{is_rows}
 use Rattle.query_chain.proofs.Adding.{bytes-append}
-use Rattle.query_chain.proofs.Lists.{flat_split, flat_more, all_taken, strings_texts, strings-append}
+use Rattle.query_chain.proofs.Lists.{flat_split, flat_more, strings_texts, strings-append}
 use Rattle.query_chain.proofs.Shapes.{typed_rows}
 
 -- what the action gives at each of the rows
@@ -36,7 +36,7 @@ row_more doc a xs i got here h e v =
     ∙ sym (step_at_rows doc a (take (i + 1) xs) ∙ flat_more (λ x. gives doc a (node x)) xs i 0 h)
 
 pub rows_done : (doc : Document) (a : Action) (xs : List ℕ) (i : ℕ) (got : List Item) → length xs ≤ i → got ≡ step_items doc a (map node (take i xs)) → got ≡ step_items doc a (map node xs)
-rows_done doc a xs i got h e = e ∙ ap (λ ys. step_items doc a (map node ys)) (all_taken xs i h)
+rows_done doc a xs i got h e = e ∙ ap (λ ys. step_items doc a (map node ys)) (take_all i xs h)
 
 -- what is given up to this row is a front of all that is given
 split_at : (doc : Document) (a : Action) (xs : List ℕ) (i : ℕ) (got here : List Item) → i < length xs → got ≡ step_items doc a (map node (take i xs)) →

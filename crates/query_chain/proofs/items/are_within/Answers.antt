@@ -1,8 +1,8 @@
 use Rattle.std.proofs.Common.{◌≡◌, ◌≤◌, ◌<◌, ◌++◌, [], ◌∷◌, ◌∙◌, sym, ap, arith, take, length, get_or, le-leb, encode_utf8_all}
 use Rattle.std.proofs.lemmas.Bool.{lt-leb}
-use Rattle.std.proofs.lemmas.List.{take_more}
+use Rattle.std.proofs.lemmas.List.{take_more, take_all}
 use Rattle.query_chain.specs.Items.{bytes_of}
-use Rattle.query_chain.proofs.Lists.{left_more, all_taken, bytes_front}
+use Rattle.query_chain.proofs.Lists.{left_more, bytes_front}
 use Rattle.query_chain.proofs.items.are_within.Goals as goal
 
 pub returns-then-len-left : goal.returns-then-len-left
@@ -15,7 +15,7 @@ returns-then-len-left c =
 
 pub returns : goal.returns
 returns c =
-    let all = ap bytes_of (all_taken c.args.texts.now c.loop-text.text-index c.loop-text-test.false) in
+    let all = ap bytes_of (take_all c.loop-text.text-index c.args.texts.now c.loop-text-test.false) in
     let within : bytes_of c.args.texts.now ≤ c.args.limit = omega (arith, all, c.loop-text.invariant) in
     sym (le-leb (bytes_of c.args.texts.now) c.args.limit within)
 

@@ -1,9 +1,10 @@
 use Rattle.std.proofs.Common.{◌≡◌, ◌≤◌, ◌++◌, [], ◌∷◌, ◌∙◌, sym, ap, arith, take, length, encode_utf8_all}
+use Rattle.std.proofs.lemmas.List.{take_all}
 use Rattle.std.proofs.lemmas.Result.{err_from_is_err_and}
 use Rattle.query_chain.proofs.Errors.{moved}
 use Rattle.query_chain.specs.Items.{bytes_of}
 use Rattle.query_chain.proofs.ItemTexts.{row_texts, rows_over, row_text_more, item_texts_of_rows}
-use Rattle.query_chain.proofs.Lists.{left_more, all_taken}
+use Rattle.query_chain.proofs.Lists.{left_more}
 use Rattle.query_chain.proofs.items.texts_of_rows.Goals as goal
 
 pub loop-x-preserved : goal.loop-x-preserved
@@ -19,12 +20,12 @@ loop-x-preserved g c =
 pub returns-clause-texts : goal.returns-clause-texts
 returns-clause-texts g c =
     let doc = g.T.Tree.document c.args.tree.now in
-    c.loop-x.invariant.texts ∙ (ap (row_texts doc) (all_taken c.args.rows.now c.loop-x.x-index c.loop-x-test.false) ∙ item_texts_of_rows doc c.args.rows.now)
+    c.loop-x.invariant.texts ∙ (ap (row_texts doc) (take_all c.loop-x.x-index c.args.rows.now c.loop-x-test.false) ∙ item_texts_of_rows doc c.args.rows.now)
 
 pub returns-clause-within : goal.returns-clause-within
 returns-clause-within g c =
     let doc = g.T.Tree.document c.args.tree.now in
-    let e = ap bytes_of (c.loop-x.invariant.texts ∙ (ap (row_texts doc) (all_taken c.args.rows.now c.loop-x.x-index c.loop-x-test.false) ∙ item_texts_of_rows doc c.args.rows.now)) in
+    let e = ap bytes_of (c.loop-x.invariant.texts ∙ (ap (row_texts doc) (take_all c.loop-x.x-index c.args.rows.now c.loop-x-test.false) ∙ item_texts_of_rows doc c.args.rows.now)) in
     omega (arith, e, c.loop-x.invariant.left)
 
 pub returns-in_err-text-clause-output : goal.returns-in_err-text-clause-output
