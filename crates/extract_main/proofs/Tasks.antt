@@ -6,7 +6,6 @@ use Rattle.query_chain.specs.Tasks.{Task, IsTask, outcome}
 use Rattle.query_chain.proofs.Tasks.{value_of_task}
 use Rattle.extract_main.specs.PageLines.{AreValues}
 use Rattle.extract_main.specs.Tasks.{AreTasks}
-use Rattle.extract_main.proofs.ValueLemmas.{take_all}
 
 next_task : (fields : List Field) (tasks : List Task) (i : ℕ) (f : Field) (t : Task) → AreTasks (take i fields) tasks → i < length fields → f ≡ get_or fields i f → IsTask f t
     → AreTasks (take (suc i) fields) (tasks ++ t ∷ [])
@@ -20,10 +19,6 @@ next_task (g ∷ fields) (u ∷ tasks) (suc i) f t h w e is = (h.0, next_task fi
 pub task_more : (fields : List Field) (tasks : List Task) (i : ℕ) (f : Field) (t : Task) → AreTasks (take i fields) tasks → i < length fields → f ≡ get_or fields i f → IsTask f t
     → AreTasks (take (i + 1) fields) (tasks ++ t ∷ [])
 task_more fields tasks i f t h w e is = rw add-one (next_task fields tasks i f t h w e is)
-
--- all fields
-pub tasks_all : (fields : List Field) (tasks : List Task) (i : ℕ) → AreTasks (take i fields) tasks → length fields ≡ i → AreTasks fields tasks
-tasks_all fields tasks i h e = subst (λ x. AreTasks x tasks) (take_all fields i e) h
 
 -- the outcomes of the fields' tasks are the fields' values
 pub are_values : (doc : Document) (fields : List Field) (tasks : List Task) → AreTasks fields tasks → AreValues doc fields (map (outcome doc 0) tasks)
