@@ -6,12 +6,12 @@ use Rattle.std.specs.List.{range_with_len, join_with_byte}
 abbrev pub item_tag : ℕ → List ℕ
 item_tag i = codes "<li class=\"k" ++ (decimal (i % 7) ++ (codes "\" id=\"n" ++ (decimal i ++ codes "\">")))
 
--- its link
-abbrev pub item_link : ℕ → List ℕ
-item_link i = codes "<a href=\"/p/" ++ (decimal i ++ (codes "\">item " ++ (decimal i ++ codes "</a>")))
+-- the link of the item whose number has these digits
+abbrev pub link_of : List ℕ → List ℕ
+link_of digits = codes "<a href=\"/p/" ++ (digits ++ (codes "\">item " ++ (digits ++ codes "</a>")))
 
 abbrev pub bulk_item : ℕ → List ℕ
-bulk_item i = item_tag i ++ item_link i
+bulk_item i = item_tag i ++ link_of (decimal i)
 
 -- the page with the items from 1 to this number, without a line break
 abbrev pub bulk_text : ℕ → List ℕ

@@ -1,7 +1,7 @@
 //! The bulk page, and the line of it.
 ghost use Rattle.std.specs.Prelude.{◌≡◌, ◌≤◌, ◌+◌, ◌++◌, ◌<◌, ◌^◌, IfOk, OnOk, string_bytes, decimal};
 ghost use Rattle.extract_main.specs.Answers.{answer_of};
-ghost use Rattle.extract_main.specs.Bulk.{item_tag, item_link, bulk_item, bulk_text, bulk_script};
+ghost use Rattle.extract_main.specs.Bulk.{item_tag, link_of, bulk_item, bulk_text, bulk_script};
 ghost use Rattle.extract_main.specs.Plans.{IsBulkLine};
 
 use crate::answers::{Line, script_answer};
@@ -40,7 +40,7 @@ fn digit(n: u32) -> &'static str
     }
 }
 
-/// Appends the start tag of an item, whose number has these digits.
+/// Appends the start tag of the item of this number, which has these digits.
 fn push_tag(page: &mut String, i: u32, digits: &str) -> Result<(), NoMemory>
     requires { digits.now ≡ decimal i }
     ensures { OnOk result (string_bytes page.new ≡ string_bytes page.old ++ item_tag i) }
@@ -52,10 +52,9 @@ fn push_tag(page: &mut String, i: u32, digits: &str) -> Result<(), NoMemory>
     push(page, "\">")
 }
 
-/// Appends the link of an item, whose number has these digits.
-fn push_link(page: &mut String, i: u32, digits: &str) -> Result<(), NoMemory>
-    requires { digits.now ≡ decimal i }
-    ensures { OnOk result (string_bytes page.new ≡ string_bytes page.old ++ item_link i) }
+/// Appends the link of the item whose number has these digits.
+fn push_link(page: &mut String, digits: &str) -> Result<(), NoMemory>
+    ensures { OnOk result (string_bytes page.new ≡ string_bytes page.old ++ link_of digits.now) }
 {
     push(page, "<a href=\"/p/")?;
     push(page, digits)?;
@@ -73,7 +72,7 @@ fn push_item(alloc: Global, page: &mut String, i: u32) -> Result<(), NoMemory>
         Err(_) => return Err(NoMemory),
     };
     push_tag(page, i, digits.as_str())?;
-    push_link(page, i, digits.as_str())
+    push_link(page, digits.as_str())
 }
 
 /// The page with the items from 1 to `n`, in one line: a list whose items have classes, ids and links.

@@ -119,7 +119,8 @@ fn write_each<P: Pages, W: Sink>(
     }
 }
 
-/// Makes the fields ready, once for all pages, and then reads each page and writes its line.
+/// Makes the fields ready, once for all pages, and then reads each page and writes its line. Where no memory is found for the
+/// first, no page is begun.
 pub fn write_pages<P: Pages, W: Sink>(
     alloc: Global,
     fields: &Seq<Field>,

@@ -125,6 +125,7 @@ fn write_form<P: Pages, W: Sink>(
 ///
 /// Whatever the status, the sink took a prefix of the output. `Usage` comes exactly where the words have none of the forms, and
 /// then nothing was read or written. A page that is refused has its line, and the run goes on; a page that can't be read ends it.
+/// The fields of a script are prepared once, before the first page is begun.
 pub fn extract<P: Pages, W: Sink>(
     alloc: Global,
     words: &[String],
