@@ -1,7 +1,7 @@
-//! What tests of each kind answer.
-ghost use Rattle.std.specs.Prelude.{◌≡◌, ◌<◌, ◌≤◌, length};
+//! What tests of each kind answer. Nothing here takes memory.
+ghost use Rattle.std.specs.Prelude.{◌≡◌};
 ghost use Rattle.test_registry.specs.declared.kinds.TestKind.TheVariants.{SameFolded, EndsWith, HasWord, Near};
-ghost use Rattle.test_registry.specs.Meets.{meets, number_of, are_near, is_digit};
+ghost use Rattle.test_registry.specs.Meets.{meets, number_of, are_near};
 
 use crate::kinds::TestKind;
 use text_base::{NotSpace4, Space4, part, run_end};
@@ -14,15 +14,15 @@ pub fn same_folded(a: &str, b: &str) -> bool
     a.eq_ignore_ascii_case(b)
 }
 
-/// Whether the second text ends the first.
-#[tactic(auto, using(std::proofs::lemmas::Str::Pattern::ends_text))]
+/// Whether the first text ends with the second.
+#[tactic(auto, using(std::proofs::lemmas::Str::Pattern::ends_text, crate::proofs::Endings::std_ends))]
 pub fn ends_with(a: &str, b: &str) -> bool
     ensures { result ≡ meets EndsWith a.now b.now }
 {
     a.ends_with(b)
 }
 
-/// Whether the second text is a word of the first.
+/// Whether the second text is a word of the first: a maximal run without white space of XML.
 pub fn has_word(a: &str, b: &str) -> bool
     ensures { result ≡ meets HasWord a.now b.now }
 {
@@ -41,12 +41,6 @@ pub fn has_word(a: &str, b: &str) -> bool
     false
 }
 
-fn is_digit(byte: u8) -> bool
-    ensures { result ≡ is_digit byte }
-{
-    byte >= b'0' && byte <= b'9'
-}
-
 /// The number that one to nine ASCII digits write.
 fn number_of(text: &str) -> Option<u32>
     ensures { result ≡ number_of text.now }
@@ -57,7 +51,7 @@ fn number_of(text: &str) -> Option<u32>
     }
     let mut value = 0u32;
     for byte in bytes {
-        if !is_digit(*byte) {
+        if !byte.is_ascii_digit() {
             return None;
         }
         value = value * 10 + (*byte - b'0') as u32;
@@ -65,6 +59,7 @@ fn number_of(text: &str) -> Option<u32>
     Some(value)
 }
 
+/// Whether there are two numbers, and they differ by at most so much.
 fn are_near(most: u32, m: Option<u32>, n: Option<u32>) -> bool
     ensures { result ≡ are_near most m n }
 {
