@@ -1,15 +1,17 @@
 -- What holds of every text and of every list of terms.
 use Rattle.std.specs.Prelude.{◌≡◌, ◌↔◌, ◌⊎◌, ℕ, suc, ◌<◌, ◌≤◌, false, List, [], ◌++◌, length, map, Some}
-use Rattle.test_registry.specs.Names.{Known}
+use Rattle.test_registry.specs.Names.{Known, taken}
 use Rattle.xpath_lexer.specs.Tokens.{Text}
 use Rattle.xpath_parser.specs.declared.expression.Expr.{Expr}
 use Rattle.xpath_parser.specs.declared.term.Term.{Term}
 use Rattle.text_base.specs.declared.reasons.XPathFault.{XPathFault}
+use Rattle.xpath_parser.specs.Asking.{AsksOnly}
 use Rattle.xpath_parser.specs.Faults.{IsFaultOver}
 use Rattle.xpath_parser.specs.Grammar.{Operands, Reads, ReadsWhole, at, rest}
 use Rattle.xpath_parser.specs.Levels.{operators_of}
 use Rattle.xpath_parser.specs.Reader as reader
 use Rattle.xpath_parser.specs.Reading.{ReadsAs, ReadsOver}
+use Rattle.xpath_parser.specs.Terms.{node_type_names, function_names}
 
 abbrev pub OneReading : Type 0
 OneReading = (ts : List Term) (x y : Expr) → ReadsWhole ts x → ReadsWhole ts y → x ≡ y
@@ -20,6 +22,14 @@ OneExpression = (tests : Known) (text : Text) (x y : Expr) → ReadsOver tests t
 -- a text that reads where no tests are stored reads as the same expression where some are
 abbrev pub ReadsMore : Type 0
 ReadsMore = (tests : Known) (text : Text) (x : Expr) → ReadsAs text x → ReadsOver tests text x
+
+-- what a text reads as calls only tests that are stored
+abbrev pub AsksStored : Type 0
+AsksStored = (tests : Known) (text : Text) (x : Expr) → ReadsOver tests text x → AsksOnly tests x
+
+-- the names that no stored test may have are those of the node types and of the functions
+abbrev pub TakenNames : Type 0
+TakenNames = taken ≡ map (λ p. p.0) node_type_names ++ map (λ p. p.0) function_names
 
 -- with more levels than terms, reading from the left finds an expression and nothing after it exactly where the rules read it
 abbrev pub FoundExactly : Type 0

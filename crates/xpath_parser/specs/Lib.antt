@@ -1,3 +1,4 @@
+pub mod Asking
 pub mod Conversions
 pub mod Denote
 pub mod Depth

@@ -1,4 +1,4 @@
-ghost use Rattle.xpath_parser.specs.Laws.{FoundExactly, LevelsCut, NeverBoth, NoneLooser, OneExpression, OneFault, OneReading, ReadOrRefused, ReadsMore};
+ghost use Rattle.xpath_parser.specs.Laws.{AsksStored, FoundExactly, LevelsCut, NeverBoth, NoneLooser, OneExpression, OneFault, OneReading, ReadOrRefused, ReadsMore, TakenNames};
 
 /// The grammar of XPath 1.0 reads a list of terms as at most one expression.
 pub fn one_reading()
@@ -18,6 +18,16 @@ pub fn found_exactly()
 /// A text that reads where no tests are stored reads as the same expression where some are.
 pub fn reads_more()
     ensures { ReadsMore }
+{}
+
+/// What a text reads as calls only tests that are stored.
+pub fn asks_stored()
+    ensures { AsksStored }
+{}
+
+/// No stored test has the name of a node type or of a function, and it may have each other name of XPath 1.0.
+pub fn taken_names()
+    ensures { TakenNames }
 {}
 
 /// A text is refused for at most one reason.

@@ -23,8 +23,8 @@ mod whole;
 
 pub use expression::{Expr, Func, Infix, Operand, Start, Step};
 pub use laws::{
-    found_exactly, levels_cut, never_both, none_looser, one_expression, one_fault, one_reading,
-    read_or_refused, reads_more,
+    asks_stored, found_exactly, levels_cut, never_both, none_looser, one_expression, one_fault,
+    one_reading, read_or_refused, reads_more, taken_names,
 };
 pub use parse::{parse_xpath, parse_xpath_with};
 pub use term::{NodeType, Term};

@@ -4,6 +4,7 @@ ghost use Rattle.test_registry.specs.Names.{Known};
 ghost use Rattle.test_registry.specs.View.{known};
 ghost use Rattle.xpath_lexer.specs.Places.{lexeme_of};
 ghost use Rattle.xpath_parser.specs.declared.expression.Expr.{Expr as ExprValue};
+ghost use Rattle.xpath_parser.specs.Asking.{AsksNone, AsksOnly};
 ghost use Rattle.xpath_parser.specs.Faults.{IsFit, IsFaultOver, IsXPathFault};
 ghost use Rattle.xpath_parser.specs.Grammar.{ReadsWhole};
 ghost use Rattle.xpath_parser.specs.Reading.{ReadsAs, ReadsOver};
@@ -66,14 +67,15 @@ fn read_terms(alloc: Global, terms: &[Term]) -> Result<Expr, XPathFault>
     }
 }
 
-/// The expression that an XPath text reads as, XPath 1.0, sections 2 and 3, where tests are
-/// stored.
+/// The expression that an XPath text reads as, XPath 1.0, sections 2 and 3, where tests are stored: the name of a test
+/// reads as a function of two arguments of any type that gives a boolean. The expression calls only stored tests.
 ///
 /// A text is refused for the first of these that stands: `Long`, `Text`, `Deep`, `Syntax`; the first
 /// in the order of the text of `Fraction`, `Range`, `Div`, `Variable`, `Prefix`, `Function` and
 /// `Arguments`; `WrongType`. `Memory` may be answered for each text.
 pub fn parse_xpath_with(alloc: Global, text: &str, tests: &Tests) -> Result<Typed, XPathFault>
     ensures ok { IfOk result (λ t. ReadsOver (known tests.now) text.now (expression t)) }
+    ensures asks { IfOk result (λ t. AsksOnly (known tests.now) (expression t)) }
     ensures fault { IfErr result (λ e. e ≢ fault.Memory → IsFaultOver (known tests.now) text.now e) }
 {
     let tokens = fit_tokens(alloc, text)?;
@@ -89,9 +91,12 @@ pub fn parse_xpath_with(alloc: Global, text: &str, tests: &Tests) -> Result<Type
     Ok(Typed::new(expr, shape))
 }
 
-/// The expression of XPath 1.0 alone that a text reads as.
+/// The expression of XPath 1.0 alone that a text reads as, which calls no stored test. A text is refused as by
+/// `parse_xpath_with` where no tests are stored.
+#[tactic(auto, using(crate::proofs::Asking::asks_none))]
 pub fn parse_xpath(alloc: Global, text: &str) -> Result<Typed, XPathFault>
     ensures ok { IfOk result (λ t. ReadsAs text.now (expression t)) }
+    ensures asks { IfOk result (λ t. AsksNone (expression t)) }
     ensures fault { IfErr result (λ e. e ≢ fault.Memory → IsXPathFault text.now e) }
 {
     parse_xpath_with(alloc, text, &Tests::new(alloc))

@@ -1,11 +1,13 @@
-use crate::parse_xpath;
+use crate::{Typed, parse_xpath, parse_xpath_with};
 use std::alloc::Global;
 use std::test::Fail;
+use test_registry::{TestKind, Tests, near};
+use text_base::XPathFault;
 use xpath_values::Shape;
 
-/// Whether the text gives a fault of this word, or an expression of this shape.
-fn gives(alloc: Global, text: &str, word: &str) -> bool {
-    match parse_xpath(alloc, text) {
+/// Whether a fault of this word was found, or an expression of this shape.
+fn shows(found: Result<Typed, XPathFault>, word: &str) -> bool {
+    match found {
         Ok(typed) => {
             word == match typed.shape() {
                 Shape::Nodes => "nodes",
@@ -16,6 +18,10 @@ fn gives(alloc: Global, text: &str, word: &str) -> bool {
         }
         Err(fault) => word == fault.word(),
     }
+}
+
+fn gives(alloc: Global, text: &str, word: &str) -> bool {
+    shows(parse_xpath(alloc, text), word)
 }
 
 /// A text so many times, and another text after it.
@@ -62,6 +68,7 @@ fn worked_rows(rt: HostRuntime) -> Result<(), Fail> {
         ("'a'", "a string"),
         ("@*/..//.", "nodes"),
         ("concat('a', 'b')[1]", "WrongType"),
+        ("near('1', '2')", "Function"),
     ];
     for (text, word) in rows {
         assert!(rt; gives(alloc, text, word), "{text}");
@@ -83,5 +90,32 @@ fn long_texts(rt: HostRuntime) -> Result<(), Fail> {
     let mut nested = repeated(alloc, "(", 64, "1")?;
     nested.push_str(repeated(alloc, ")", 64, "")?.as_str())?;
     assert!(rt; gives(alloc, nested.as_str(), "a number"));
+    Ok(())
+}
+
+#[test]
+fn stored_tests(rt: HostRuntime) -> Result<(), Fail> {
+    let alloc = rt.alloc();
+    let mut tests = Tests::new(alloc);
+    let test: Box<dyn Fn(&str, &str) -> bool> = Box::new(
+        alloc,
+        |a: &str, b: &str| near(100, a, b),
+    )?;
+    assert!(rt; tests.add("near", TestKind::Near(100), test).is_ok());
+    for (text, word) in [
+        ("near('1', '2')", "a boolean"),
+        ("//li[near(., 110)]", "nodes"),
+        ("near(//a, near(1, true()))", "a boolean"),
+        ("near('1')", "Arguments"),
+        ("near(1, 2, 3)", "Arguments"),
+        ("nearby('1', '2')", "Function"),
+        ("near", "nodes"),
+        ("near('1', '2')[1]", "WrongType"),
+    ] {
+        assert!(rt;
+            shows(parse_xpath_with(alloc, text, &tests), word),
+            "{text}"
+        );
+    }
     Ok(())
 }

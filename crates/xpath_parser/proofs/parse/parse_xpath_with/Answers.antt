@@ -4,12 +4,14 @@ use Rattle.text_base.specs.declared.reasons.XPathFault.TheVariants as fault
 use Rattle.test_registry.specs.View.{known}
 use Rattle.xpath_lexer.specs.Places.{lexeme_of}
 use Rattle.xpath_parser.specs.declared.expression.Expr.{Expr}
+use Rattle.xpath_parser.specs.Asking.{AsksOnly}
 use Rattle.xpath_parser.specs.Terms.{terms_over}
 use Rattle.xpath_parser.specs.Faults.{IsFit, first_fault, at_token, wrong_type}
 use Rattle.xpath_parser.specs.Grammar.{ReadsWhole}
 use Rattle.xpath_parser.specs.Reading.{ReadsOver}
 use Rattle.xpath_parser.specs.Shapes.{is_well_typed}
 use Rattle.xpath_parser.specs.Typed.{expression}
+use Rattle.xpath_parser.proofs.Asked.{asks_only}
 use Rattle.xpath_parser.proofs.Fit.{reads_as, readable, syntax_fault}
 use Rattle.xpath_parser.proofs.parse.parse_xpath_with.Goals as goal
 
@@ -65,3 +67,15 @@ returns-clause-ok g c =
     let right : is_well_typed c.in_ok-expr.expr ≡ true = first_of (search rules, grind (arith, common_steps)) in
     let same : expression c.new.result ≡ c.in_ok-expr.expr = first_of (search rules, grind (arith, common_steps)) in
     subst (ReadsOver tests c.args.text.now) (sym same) (reads_as tests c.args.text.now ws c.in_ok-expr.expr c.in_ok-tokens.ensures.fit reads (ap first_fault (sym all) ∙ first) right)
+
+pub returns-clause-asks : goal.returns-clause-asks
+returns-clause-asks g c =
+    let tests = known c.args.tests.now in
+    let ws = map lexeme_of c.in_ok-tokens.tokens in
+    let all : c.in_ok-terms.terms ≡ terms_over tests ws = first_of (search rules, grind (arith, common_steps)) in
+    let whole : ReadsWhole c.in_ok-terms.terms c.in_ok-expr.expr = first_of (search rules, grind (arith, common_steps)) in
+    let reads : ReadsWhole (terms_over tests ws) c.in_ok-expr.expr = subst (λ ts. ReadsWhole ts c.in_ok-expr.expr) all whole in
+    let first : first_fault c.in_ok-terms.terms ≡ None = first_of (search rules, grind (arith, common_steps)) in
+    let right : is_well_typed c.in_ok-expr.expr ≡ true = first_of (search rules, grind (arith, common_steps)) in
+    let same : expression c.new.result ≡ c.in_ok-expr.expr = first_of (search rules, grind (arith, common_steps)) in
+    subst (AsksOnly tests) (sym same) (asks_only tests c.args.text.now c.in_ok-expr.expr (reads_as tests c.args.text.now ws c.in_ok-expr.expr c.in_ok-tokens.ensures.fit reads (ap first_fault (sym all) ∙ first) right))
