@@ -25,6 +25,10 @@ HAS = {
 }
 
 
+# What a row is that is said in words and not run.
+SAID = object()
+
+
 def cells_of(line):
     """The cells of a table's row, with `\\|` as the one character."""
     return [it.replace("\0", "|").strip() for it in line.replace("\\|", "\0").strip().strip("|").split("|")]
@@ -85,10 +89,12 @@ def wanted(cell):
 
 def by_parsel(page, field):
     """What parsel gives for a field, None where python3 has no parsel."""
-    ask = "import json, sys; from parsel import Selector\nprint(json.dumps(eval('s.' + sys.argv[2], {'s': Selector(sys.argv[1])})))"
+    ask = "import json, sys\nfrom parsel import Selector\nprint(json.dumps(eval('s.' + sys.argv[2], {'s': Selector(sys.argv[1])})))"
     if subprocess.run(["python3", "-c", "import parsel"], capture_output=True).returncode:
         return None
-    ran = subprocess.run(["python3", "-c", ask, page_of(page).decode(), field], capture_output=True, text=True)
+    # (there `re` ends a chain, and gives all)
+    chain = re.sub(r"(\.re\(.*\))\.getall\(\)$", r"\1", field)
+    ran = subprocess.run(["python3", "-c", ask, page_of(page).decode(), chain], capture_output=True, text=True)
     return ran.stdout.strip() if not ran.returncode else "an exception"
 
 
@@ -203,10 +209,10 @@ def wrong(file, lines, program):
             row = next((call for names, call in KINDS.items() if tuple(head[: len(names)]) == names), None)
             for at, cells in rows if row else ():
                 try:
-                    want, got = row(program, room, cells) or (None, None)
+                    want, got = row(program, room, cells) or (SAID, SAID)
                 except (ValueError, LookupError, TypeError) as fault:
                     want, got = "a row that can be read", repr(fault)
-                tried += want is not None
+                tried += want is not SAID
                 if want != got:
                     print(f"blocks: {file}:{at}: another answer: {json.dumps(got, ensure_ascii=False)}")
                     bad += 1
