@@ -10,8 +10,8 @@
 
 In the cell of a page `\\n` stands for a line feed and `\\r` for a carriage return. A row whose example is no code is said in words and not run.
 """
+import functools
 import json
-import os
 import re
 import subprocess
 import tempfile
@@ -87,10 +87,18 @@ def wanted(cell):
     return json.loads(shown)
 
 
+@functools.lru_cache(maxsize=None)
+def has_parsel():
+    is_here = not subprocess.run(["python3", "-c", "import parsel"], capture_output=True).returncode
+    if not is_here:
+        print("blocks: what parsel gives is left out, since parsel is not here")
+    return is_here
+
+
 def by_parsel(page, field):
     """What parsel gives for a field, None where python3 has no parsel."""
     ask = "import json, sys\nfrom parsel import Selector\nprint(json.dumps(eval('s.' + sys.argv[2], {'s': Selector(sys.argv[1])})))"
-    if subprocess.run(["python3", "-c", "import parsel"], capture_output=True).returncode:
+    if not has_parsel():
         return None
     # (there `re` ends a chain, and gives all)
     chain = re.sub(r"(\.re\(.*\))\.getall\(\)$", r"\1", field)
