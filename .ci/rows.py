@@ -25,6 +25,13 @@ HAS = {
 }
 
 
+# Elements of HTML, so that one which the lists of the document leave out is tried too.
+ELEMENTS = """a abbr address applet area article aside audio b base basefont bdi bdo bgsound big blockquote body br button canvas caption center
+    cite code col colgroup data datalist dd del details dfn dialog dir div dl dt em embed fieldset figcaption figure font footer form frame
+    frameset h1 h2 h3 h4 h5 h6 head header hgroup hr html i iframe img input ins kbd keygen label legend li link listing main map mark marquee
+    math menu meta meter nav noembed noframes nobr noscript object ol optgroup option output p param picture pre progress q rb rp rt rtc ruby s
+    samp script search section select small source span strike strong style sub summary sup svg table tbody td template textarea tfoot th
+    thead time title tr track tt u ul var video wbr xmp""".split()
 # What a row is that is said in words and not run.
 SAID = object()
 
@@ -170,7 +177,7 @@ def ends_wrong(file, lines, table, program, room):
     """Runs each pair of an element that may be open and a start tag: it ends the element exactly where the table says so."""
     voids, omits = sentence(lines, "Void elements"), sentence(lines, "Twenty-one elements")
     ends = {it: set() for it in omits}
-    known, but = {*voids, *omits, "span", "a", "b", "script", "template", "title", "svg", "x-y"}, {}
+    known, but = {*voids, *omits, *ELEMENTS, "x-y"}, {}
     for _, (opened, before) in table:
         for name in names_in(opened):
             if before.startswith("every start tag but "):
