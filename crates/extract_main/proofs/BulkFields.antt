@@ -2,7 +2,7 @@
 use Rattle.std.proofs.Common.{◌≡◌, ℕ, ◌<◌, List, length, refl, arith, inl, inr, ◌⊎◌}
 use Rattle.text_base.specs.declared.reasons.ScriptFault.{ScriptFault}
 use Rattle.text_base.specs.declared.reasons.ScriptFault.TheVariants as script
-use Rattle.css_meaning.specs.declared.selector.Dialect.TheVariants.{Html}
+use Rattle.css_selectors.specs.declared.selector.Dialect.TheVariants.{Html}
 use Rattle.query_script.specs.declared.script.Field.{Field}
 use Rattle.query_script.specs.Cuts.{fields_of}
 use Rattle.query_script.specs.Fields.{IsScript, IsScriptFault}

@@ -2,7 +2,7 @@
 use Rattle.std.proofs.Common.{◌≡◌, ℕ, List, ◌⊎◌}
 use Rattle.text_base.specs.declared.reasons.PageReason.{PageReason}
 use Rattle.text_base.specs.declared.reasons.ScriptFault.{ScriptFault}
-use Rattle.css_meaning.specs.declared.selector.Dialect.{Dialect}
+use Rattle.css_selectors.specs.declared.selector.Dialect.{Dialect}
 use Rattle.doc_model.specs.Document.{Document}
 use Rattle.html_reader.specs.Pages.{BuildsPage, IsPageFault}
 use Rattle.html_reader.proofs.FaultLemmas.{one_page_document, one_page_fault, never_both_of_page}

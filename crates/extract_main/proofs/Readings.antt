@@ -4,8 +4,8 @@ use Rattle.std.specs.Prelude.{nat_le}
 use Rattle.std.proofs.lemmas.Bool.Decides.{nat_tests}
 use Rattle.text_base.specs.declared.reasons.SelectorFault.{SelectorFault}
 use Rattle.text_base.specs.declared.reasons.SelectorFault.TheVariants as fault
-use Rattle.css_meaning.specs.declared.selector.Dialect.{Dialect}
-use Rattle.css_meaning.specs.declared.selector.SelectorList.{SelectorList}
+use Rattle.css_selectors.specs.declared.selector.Dialect.{Dialect}
+use Rattle.css_selectors.specs.declared.selector.SelectorList.{SelectorList}
 use Rattle.css_parser.specs.Selecting.{Accepts, IsFault}
 use Rattle.css_printed.specs.Printed.{printed}
 use Rattle.css_printed.specs.Promise.{KeepsMeaning}
@@ -14,7 +14,7 @@ use Rattle.extract_main.specs.Laws.{OneReading}
 use Rattle.json_lines.specs.Lines.{IsSmall}
 use Rattle.std.specs.List.{AllByRecursion}
 use Rattle.std.proofs.lemmas.List.Elements.{All-weaker, recursion_from_All}
-use Rattle.css_meaning.specs.WellMade.{WellMade, IsSelector}
+use Rattle.css_selectors.specs.WellMade.{WellMade, IsSelector}
 use Rattle.css_parser.proofs.Existence.{each_list_or_fault}
 use Rattle.css_parser.proofs.SelectingLemmas.{one_reading as one_list, one_fault, list_or_fault}
 

@@ -2,8 +2,8 @@
 use Rattle.std.specs.Prelude.{◌≡◌, ℕ, ◌⊎◌, true, List, [], ◌∷◌, ◌++◌, Option, IfSome, codes}
 use Rattle.text_base.specs.declared.reasons.ScriptFault.{ScriptFault}
 use Rattle.text_base.specs.Reasons.{script_word}
-use Rattle.css_meaning.specs.declared.selector.Dialect.{Dialect}
-use Rattle.css_meaning.specs.declared.selector.Dialect.TheVariants.{Html}
+use Rattle.css_selectors.specs.declared.selector.Dialect.{Dialect}
+use Rattle.css_selectors.specs.declared.selector.Dialect.TheVariants.{Html}
 use Rattle.query_script.specs.declared.script.Field.{Field}
 use Rattle.query_script.specs.Fields.{IsScript, IsScriptFault}
 use Rattle.json_lines.specs.Lines.{reason_text}

@@ -1,7 +1,7 @@
 //! Lines with the truth whether they hold a refusal.
 ghost use Rattle.std.specs.Prelude.{◌≡◌, ◌≢◌, ◌++◌, IfOk, string_bytes, codes, false, true};
 ghost use Rattle.text_base.specs.Reasons.{selector_word, script_word};
-ghost use Rattle.css_meaning.specs.declared.selector.SelectorList.{SelectorList};
+ghost use Rattle.css_selectors.specs.declared.selector.SelectorList.{SelectorList};
 ghost use Rattle.css_parser.specs.Selecting.{Accepts};
 ghost use Rattle.query_script.specs.Fields.{IsScriptFault};
 ghost use Rattle.json_lines.specs.Lines.{reason_text};
@@ -9,8 +9,8 @@ ghost use Rattle.extract_main.specs.Answers.{answer_of};
 ghost use Rattle.extract_main.specs.CssLines.{IsCssLine, IsKept};
 ghost use Rattle.extract_main.specs.Plans.{IsScriptRefused};
 
-use css_meaning::Dialect;
 use css_parser::parse_selectors;
+use css_selectors::Dialect;
 use css_translate::translate;
 use json_lines::{css_line, reason_line};
 use std::alloc::Global;

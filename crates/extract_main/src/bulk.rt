@@ -6,7 +6,7 @@ ghost use Rattle.extract_main.specs.Plans.{IsBulkLine};
 
 use crate::answers::{Line, script_answer};
 use crate::page_lines::{page_answer, prepare_fields};
-use css_meaning::Dialect;
+use css_selectors::Dialect;
 use query_script::parse_script;
 use std::alloc::Global;
 use text_base::{NoMemory, ScriptFault};

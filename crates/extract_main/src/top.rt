@@ -2,7 +2,7 @@
 ghost use Rattle.std.specs.Prelude.{◌≡◌, ◌≢◌, ◌⊎◌, ◌↔◌, ◌≤◌, ℕ, List, Option, None, Some, true, false, [], map, length, IfSome, string_bytes};
 ghost use Rattle.io_edges.specs.Counts.{Rose, Grows};
 ghost use Rattle.io_edges.specs.Sink.{TakesPart};
-ghost use Rattle.css_meaning.specs.declared.selector.SelectorList.{SelectorList};
+ghost use Rattle.css_selectors.specs.declared.selector.SelectorList.{SelectorList};
 ghost use Rattle.css_parser.specs.Selecting.{Accepts};
 ghost use Rattle.std.specs.List.{AllByRecursion};
 ghost use Rattle.query_script.specs.declared.script.Field.{Field};
@@ -21,7 +21,7 @@ use crate::pages::write_pages;
 use crate::status::Status;
 use crate::words::{Form, read};
 use crate::writing::write_alone;
-use css_meaning::Dialect;
+use css_selectors::Dialect;
 use io_edges::{Pages, Sink};
 use query_script::parse_script;
 use std::alloc::Global;

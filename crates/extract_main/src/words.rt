@@ -2,7 +2,7 @@
 ghost use Rattle.std.specs.Prelude.{◌≡◌, [], ◌∷◌, map, string_bytes};
 ghost use Rattle.extract_main.specs.Words.{dialect_of, is_digit, count_of, read, command_of};
 
-use css_meaning::Dialect;
+use css_selectors::Dialect;
 
 /// What the words ask for.
 #[derive(Clone, Copy)]

@@ -5,8 +5,8 @@ use Rattle.json.specs.Print.{quoted, escape_byte}
 use Rattle.serde_json.specs.Data.{Data}
 use Rattle.serde_json.specs.View.{items_of}
 use Rattle.serde_json.specs.Written.{has_float, items_have_float, items_text, compact_text}
-use Rattle.css_meaning.specs.declared.selector.Selector.{Selector}
-use Rattle.css_meaning.specs.Specificity.{triple_of}
+use Rattle.css_selectors.specs.declared.selector.Selector.{Selector}
+use Rattle.css_selectors.specs.Specificity.{triple_of}
 use Rattle.json_lines.specs.Lines.{css_data, css_text, reason_data, reason_text, triple_data, triple_text, triples_text}
 
 or_false : (a b : Bool) → a ≡ false → b ≡ false → (a || b) ≡ false

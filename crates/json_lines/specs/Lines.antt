@@ -4,9 +4,10 @@ use Rattle.std.specs.List.{join_with_byte}
 use Rattle.json.specs.Print.{quoted}
 use Rattle.serde_json.specs.Data.{Data, array, object, string, number, unsigned, no_items, item, no_members, member}
 use Rattle.serde_json.specs.View.{items_of}
-use Rattle.css_meaning.specs.declared.selector.Selector.{Selector}
-use Rattle.css_meaning.specs.declared.selector.Triple.{Triple}
-use Rattle.css_meaning.specs.Specificity.{size_of, triple_of}
+use Rattle.css_selectors.specs.declared.selector.Selector.{Selector}
+use Rattle.css_selectors.specs.declared.selector.Triple.{Triple}
+use Rattle.css_selectors.specs.Sizes.{size_of}
+use Rattle.css_selectors.specs.Specificity.{triple_of}
 
 -- the three numbers in square brackets
 abbrev pub triple_text : Triple → List ℕ

@@ -5,7 +5,7 @@ ghost use Rattle.serde_json.specs.View.{view};
 ghost use Rattle.serde_json.specs.Written.{compact_text};
 ghost use Rattle.json_lines.specs.Lines.{css_data, css_text, triple_data, reason_data, reason_text, triples_data, IsSmall};
 
-use css_meaning::{Selector, SelectorList, Triple, specificity};
+use css_selectors::{Selector, SelectorList, Triple, specificity};
 use serde_json::{Value, json};
 use std::alloc::{AllocError, Global};
 use text_base::NoMemory;

@@ -1,5 +1,5 @@
 use crate::{css_line, page_line, reason_line, refused_line};
-use css_meaning::SelectorList;
+use css_selectors::SelectorList;
 use query_script::{Chain, Field, FieldValue, Reason};
 use std::alloc::Global;
 use std::test::Fail;

@@ -3,7 +3,7 @@ ghost use Rattle.doc_model.specs.Growing.{AwaitsText};
 ghost use Rattle.query_script.specs.Ordered.{IsOrdered};
 
 use crate::{prepare, run_field, run_ready_at};
-use css_meaning::Dialect;
+use css_selectors::Dialect;
 use doc_model::{Axes, Grow, Piece, Plain, VecGrow, VecTree};
 use query_script::{Field, FieldValue, parse_script};
 use std::alloc::Global;

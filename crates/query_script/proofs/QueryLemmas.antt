@@ -6,8 +6,8 @@ use Rattle.std.proofs.lemmas.List.{append-nil, drop_all, drop_more}
 use Rattle.text_base.specs.declared.reasons.SelectorFault.{SelectorFault}
 use Rattle.text_base.specs.declared.reasons.SelectorFault.TheVariants as fault
 use Rattle.text_base.proofs.Text.{encode-chars}
-use Rattle.css_meaning.specs.declared.selector.Dialect.{Dialect}
-use Rattle.css_meaning.specs.declared.selector.SelectorList.{SelectorList}
+use Rattle.css_selectors.specs.declared.selector.Dialect.{Dialect}
+use Rattle.css_selectors.specs.declared.selector.SelectorList.{SelectorList}
 use Rattle.css_parser.specs.Selecting.{Accepts, IsUnlisted}
 use Rattle.css_printed.specs.Printed.{printed}
 use Rattle.css_printed.specs.Promise.{KeepsMeaning}

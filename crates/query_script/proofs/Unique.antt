@@ -7,8 +7,8 @@ use Rattle.text_base.specs.declared.reasons.ScriptFault.TheVariants as script
 use Rattle.text_base.specs.declared.reasons.SelectorFault.{SelectorFault}
 use Rattle.text_base.specs.declared.reasons.SelectorFault.TheVariants as fault
 use Rattle.text_base.specs.declared.reasons.XPathFault.{XPathFault}
-use Rattle.css_meaning.specs.declared.selector.Dialect.{Dialect}
-use Rattle.css_meaning.specs.declared.selector.SelectorList.{SelectorList}
+use Rattle.css_selectors.specs.declared.selector.Dialect.{Dialect}
+use Rattle.css_selectors.specs.declared.selector.SelectorList.{SelectorList}
 use Rattle.css_parser.specs.Selecting.{Accepts, IsFault}
 use Rattle.css_parser.proofs.SelectingLemmas.{one_reading, one_fault, list_or_fault}
 use Rattle.css_printed.specs.Printed.{printed}

@@ -4,7 +4,7 @@ use Rattle.text_base.specs.declared.reasons.ScriptFault.{ScriptFault}
 use Rattle.text_base.specs.declared.reasons.ScriptFault.TheVariants as script
 use Rattle.text_base.specs.declared.reasons.SelectorFault.TheVariants as selector
 use Rattle.text_base.specs.declared.reasons.XPathFault.TheVariants as xpath
-use Rattle.css_meaning.specs.declared.selector.Dialect.{Dialect}
+use Rattle.css_selectors.specs.declared.selector.Dialect.{Dialect}
 use Rattle.query_script.specs.declared.script.Chain.{Chain}
 use Rattle.query_script.specs.declared.script.Chain.TheVariants as chain
 use Rattle.query_script.specs.declared.script.ChainStep.{ChainStep}

@@ -1,7 +1,7 @@
 -- What holds of all scripts.
 use Rattle.std.specs.Prelude.{◌≡◌, ◌⊎◌, ℕ, List}
 use Rattle.text_base.specs.declared.reasons.ScriptFault.{ScriptFault}
-use Rattle.css_meaning.specs.declared.selector.Dialect.{Dialect}
+use Rattle.css_selectors.specs.declared.selector.Dialect.{Dialect}
 use Rattle.query_script.specs.declared.script.Field.{Field}
 use Rattle.query_script.specs.declared.script.Chain.TheVariants as chain
 use Rattle.query_script.specs.declared.script.Reason.{Reason}

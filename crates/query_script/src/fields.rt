@@ -8,7 +8,7 @@ use crate::chains::read_chain;
 use crate::names::name_and_rest;
 use crate::queries::chain_of;
 use crate::script::{Chain, Field, Reason};
-use css_meaning::Dialect;
+use css_selectors::Dialect;
 use std::alloc::Global;
 use text_base::{NoMemory, Txt};
 

@@ -6,7 +6,7 @@ ghost use Rattle.query_script.specs.Ordered.{IsOrdered};
 use crate::cuts::field_pieces;
 use crate::fields::fields;
 use crate::script::Script;
-use css_meaning::Dialect;
+use css_selectors::Dialect;
 use std::alloc::Global;
 use text_base::{ScriptFault, Seq};
 

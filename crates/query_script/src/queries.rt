@@ -6,8 +6,8 @@ ghost use Rattle.query_script.specs.Reader.{IsFound, AreFound, written_of};
 
 use crate::script::{Chain, ChainStep, Reason, Take};
 use crate::steps::{Kind, StepText};
-use css_meaning::Dialect;
 use css_parser::parse_selectors;
+use css_selectors::Dialect;
 use css_translate::translate;
 use std::alloc::Global;
 use text_base::{NoMemory, SelectorFault, Seq, Txt, XPathFault};

@@ -1,5 +1,5 @@
 use crate::{Chain, ChainStep, Script, Take, parse_script};
-use css_meaning::Dialect;
+use css_selectors::Dialect;
 use std::alloc::Global;
 use std::test::Fail;
 use text_base::ScriptFault;

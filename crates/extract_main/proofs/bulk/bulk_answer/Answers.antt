@@ -1,5 +1,5 @@
 use Rattle.std.proofs.Common.{◌∙◌}
-use Rattle.css_meaning.specs.declared.selector.Dialect.TheVariants.{Html}
+use Rattle.css_selectors.specs.declared.selector.Dialect.TheVariants.{Html}
 use Rattle.query_script.specs.Fields.{IsScript}
 use Rattle.extract_main.specs.Bulk.{bulk_script}
 use Rattle.extract_main.proofs.Plans.{bulk_line}

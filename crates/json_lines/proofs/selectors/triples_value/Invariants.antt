@@ -1,6 +1,6 @@
 use Rattle.std.proofs.Common.{◌≡◌, take, map}
 use Rattle.serde_json.specs.View.{view}
-use Rattle.css_meaning.specs.Specificity.{triple_of}
+use Rattle.css_selectors.specs.Specificity.{triple_of}
 use Rattle.json_lines.specs.Lines.{triple_data}
 use Rattle.json_lines.proofs.selectors.triples_value.Given as goal
 
