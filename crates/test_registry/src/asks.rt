@@ -1,4 +1,4 @@
-//! Who answers for stored tests: some tests, or none.
+//! Who answers for stored tests.
 ghost use Rattle.std.specs.Prelude.{◌≡◌};
 ghost use Rattle.test_registry.specs.Kinds.{HasKind};
 ghost use Rattle.test_registry.specs.Meets.{meets};
@@ -26,19 +26,5 @@ impl Asks for Tests {
 
     fn asked(&self, kind: TestKind, a: &str, b: &str) -> bool {
         self.ask(kind, a, b)
-    }
-}
-
-/// No tests at all.
-#[derive(Clone, Copy, Debug)]
-pub struct NoTests;
-
-impl Asks for NoTests {
-    ghost use Rattle.std.specs.Prelude.{[]};
-
-    ghost kinds = { λ _. [] };
-
-    fn asked(&self, _kind: TestKind, _a: &str, _b: &str) -> bool {
-        unreachable!()
     }
 }

@@ -12,6 +12,6 @@ mod registry;
 mod tests;
 
 pub use answers::{answer, ends_with, has_word, near, same_folded};
-pub use asks::{Asks, NoTests};
+pub use asks::Asks;
 pub use kinds::{AddFault, TestKind};
 pub use registry::Tests;
