@@ -57,6 +57,7 @@ css_not_for_memory d text selector.Syntax h = λ e. cc
 css_not_for_memory d text selector.Prefix h = λ e. cc
 css_not_for_memory d text selector.UnknownPseudo h = λ e. cc
 css_not_for_memory d text selector.PseudoElement h = λ e. cc
+css_not_for_memory d text selector.Nested h = λ e. cc
 css_not_for_memory d text selector.OfType h = λ e. cc
 css_not_for_memory d text selector.Number h = λ e. cc
 css_not_for_memory d text selector.XPathLong h = λ e. cc
