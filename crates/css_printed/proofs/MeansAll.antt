@@ -91,7 +91,6 @@ module _ (doc : Document) (is : IsDocument doc) (c : Countable doc) (d : Dialect
   op_keeps name op.Prefix v calm = one_keeps doc d el _ _ (λ x i. prefix_is doc (attribute d name) (folded d name) (at_attribute doc d name) is v x)
   op_keeps name op.Suffix v calm = one_keeps doc d el _ _ (λ x i. suffix_is doc (attribute d name) (folded d name) (at_attribute doc d name) is c v x)
   op_keeps name op.Substring v calm = one_keeps doc d el _ _ (λ x i. substring_is doc (attribute d name) (folded d name) (at_attribute doc d name) is v x)
-
   -- ---- all tests, at every depth
 
 module _ (doc : Document) (is : IsDocument doc) (c : Countable doc) (d : Dialect) where
@@ -129,10 +128,11 @@ module _ (doc : Document) (is : IsDocument doc) (c : Countable doc) (d : Dialect
       → (y : ℕ) → is_named_element doc d around y ≡ true → AllByRecursion (λ v. Tells doc (compound_expression d v around) y (compound_holds doc d v y)) list
   compounds_tell Fits inside around ih [] calm h y named = tt
   compounds_tell Fits inside around ih (v ∷ vs) calm h y named =
-      let inner : Option (List ℕ) = innermost around (out-Compound v).element in
-      (compound_tells doc d around v (all_of (Fits inside inner) inner (ih inner) (out-Compound v).simples (λ w. calm (or_left (compound_asks v) _ (words_at.at_compound v ∙ w)))
-      (recursion_from_All (Fits inside inner) (out-Compound v).simples h.0)) y named,
-      compounds_tell Fits inside around ih vs (λ w. calm (or_right (compound_asks v) _ w)) h.1 y named)
+      let inner : Option (List ℕ) = innermost around (out-Compound v).element in (
+        compound_tells doc d around v (all_of (Fits inside inner) inner (ih inner) (out-Compound v).simples (λ w. calm (or_left (compound_asks v) _ (words_at.at_compound v ∙ w)))
+            (recursion_from_All (Fits inside inner) (out-Compound v).simples h.0)) y named,
+        compounds_tell Fits inside around ih vs (λ w. calm (or_right (compound_asks v) _ w)) h.1 y named,
+      )
 
   layer_keeps : (Fits : Bool → Option (List ℕ) → Simple → Type 0)
       → ((inside : Bool) (a : Option (List ℕ)) (s : Simple) → (simple_asks s ≡ true → NoFormFeed doc) → Fits inside a s → SimpleKeeps doc d a s)

@@ -52,7 +52,6 @@ lang_reads Html v =
     bracket (whole (single (axis_step axis.AncestorOrSelf
     (with any_tested (join (bracket (whole lang_attribute)) (join (bracket (whole (number_reads 1))) (bracket (whole (begins_read v)))))))))
 
-
 -- ---- one alone, or several with `or` between
 
 module _ {X : Type 0} (said : X → List Term) (means : X → Expr) where

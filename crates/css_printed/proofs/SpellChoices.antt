@@ -167,10 +167,11 @@ module _ (d : Dialect) where
   compounds_begin Fits inside n around a ih [] g h = tt
   compounds_begin Fits inside n around a ih (c ∷ cs) g h =
       let inner : Option (List ℕ) = innermost around (out-Compound c).element in
-      let both : (IsElementText (out-Compound c).element) × (list_all simple_texts (out-Compound c).simples ≡ true) = and_parts _ _ (sym (texts_at.at_compound c) ∙ g.0) in
-      (compound_begins n around c both.0 (all_of (Fits inside inner) n inner (λ x k fits. ih inner x (innermost_text around (out-Compound c).element a both.0) k fits) (out-Compound c).simples
-      (all_true simple_texts (out-Compound c).simples both.1) (recursion_from_All (Fits inside inner) (out-Compound c).simples h.0)),
-      compounds_begin Fits inside n around a ih cs g.1 h.1)
+      let both : (IsElementText (out-Compound c).element) × (list_all simple_texts (out-Compound c).simples ≡ true) = and_parts _ _ (sym (texts_at.at_compound c) ∙ g.0) in (
+        compound_begins n around c both.0 (all_of (Fits inside inner) n inner (λ x k fits. ih inner x (innermost_text around (out-Compound c).element a both.0) k fits) (out-Compound c).simples
+            (all_true simple_texts (out-Compound c).simples both.1) (recursion_from_All (Fits inside inner) (out-Compound c).simples h.0)),
+        compounds_begin Fits inside n around a ih cs g.1 h.1,
+      )
 
   abbrev TestSpells : ℕ → Option (List ℕ) → Test → Type 0
   TestSpells n around u = Spells n (test_said d u around) (test_terms d u around)
