@@ -67,8 +67,6 @@ fn main(rt: HostRuntime) -> ExitCode {
 }
 
 #[cfg(test)]
-mod page_tests;
-#[cfg(test)]
 mod run_tests;
 #[cfg(test)]
 mod tested;

