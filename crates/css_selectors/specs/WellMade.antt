@@ -1,5 +1,5 @@
 -- What holds of every selector list that is read from a text, after the grammar of Selectors Level 3, section 10, with the
--- choices of Selectors Level 4, sections 4.2 to 4.4, each inside seven others at most.
+-- choices of Selectors Level 4, sections 4.2 to 4.5, each inside seven others at most.
 use Rattle.std.specs.Prelude.{◌≡◌, ◌≢◌, ℕ, zero, suc, ◌+◌, ◌^◌, ◌<◌, ◌≤◌, Bool, true, false, List, [], ◌∷◌, length, All, Option, Some, None, IsSome, ℤ, nat_abs}
 use Rattle.css_selectors.specs.declared.selector.Compound.{Compound, out-Compound}
 use Rattle.css_selectors.specs.declared.selector.Link.TheVariants as link
@@ -10,7 +10,7 @@ use Rattle.css_selectors.specs.declared.selector.Op.TheVariants as op
 use Rattle.css_selectors.specs.declared.selector.Part.{Part, out-Part}
 use Rattle.css_selectors.specs.declared.selector.Pseudo.{Pseudo}
 use Rattle.css_selectors.specs.declared.selector.Pseudo.TheVariants as pseudo
-use Rattle.css_selectors.specs.declared.selector.Relative.{Relative}
+use Rattle.css_selectors.specs.declared.selector.Relative.{Relative, out-Relative}
 use Rattle.css_selectors.specs.declared.selector.Selector.{Selector}
 use Rattle.css_selectors.specs.declared.selector.SelectorList.{SelectorList}
 use Rattle.css_selectors.specs.declared.selector.Simple.{Simple}
@@ -55,8 +55,15 @@ abbrev pub innermost : Option (List ℕ) → Option (List ℕ) → Option (List 
 innermost around None = around
 innermost around (Some n) = Some n
 
+-- What is asked of a relative, where Fits is asked of each simple with the element of its own part around it: there is a part, and
+-- each is joined by a combinator to what stands before it.
+abbrev pub FitsRelative : (Option (List ℕ) → Simple → Type 0) → Relative → Type 0
+FitsRelative Fits r =
+    (0 < length (out-Relative r).parts) × All (λ p. ((out-Part p).link ≢ link.First) × All (Fits (out-Part p).element) (out-Part p).simples) (out-Relative r).parts
+
 -- What is asked of a test, where a choice may still be opened or not, inside a `Has` or not, with that name around it,
--- negated or not. Fits says of a simple what is asked of it one choice further in.
+-- negated or not. A `Has` stands in no other, and no name around it counts inside. Fits says of a simple what is asked of it one
+-- choice further in.
 abbrev pub FitsTest : (Bool → Option (List ℕ) → Simple → Type 0) → Bool → Bool → Option (List ℕ) → Bool → open_.Test-F Test Compound Part Relative Simple → Type 0
 FitsTest Fits room inside around negated (open_.Element n) = negated ≡ true
 FitsTest Fits room inside around negated (open_.Id x) = Unit
@@ -68,7 +75,7 @@ FitsTest Fits room inside around negated (open_.Contains x) = Unit
 FitsTest Fits room inside around negated (open_.Lang x) = Unit
 FitsTest Fits room inside around negated (open_.Any w list) =
     (room ≡ true) × (0 < length list) × All (λ c. All (Fits inside (innermost around (out-Compound c).element)) (out-Compound c).simples) list
-FitsTest Fits room inside around negated (open_.Has list) = ⊥
+FitsTest Fits room inside around negated (open_.Has list) = (room ≡ true) × (inside ≡ false) × (0 < length list) × All (FitsRelative (Fits true)) list
 
 abbrev pub Nowhere : Bool → Option (List ℕ) → Simple → Type 0
 Nowhere inside around x = ⊥

@@ -79,7 +79,8 @@ pub enum Test {
     Lang(Txt),
     /// One of these compounds holds there, of which there is at least one.
     Any(Weight, Seq<Compound>),
-    /// One of these relatives leads on from there. It stands in no list that is well made.
+    /// One of these relatives leads on from there, of which there is at least one. Inside it stands
+    /// no other of its kind.
     Has(Seq<Relative>),
 }
 
