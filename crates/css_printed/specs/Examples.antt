@@ -6,6 +6,8 @@ use Rattle.css_selectors.specs.declared.selector.Link.TheVariants as link
 use Rattle.css_selectors.specs.declared.selector.Nth.TheVariants as nth
 use Rattle.css_selectors.specs.declared.selector.Op.TheVariants as op
 use Rattle.css_selectors.specs.declared.selector.Pseudo.TheVariants as pseudo
+use Rattle.css_selectors.specs.declared.selector.Part.{Part}
+use Rattle.css_selectors.specs.declared.selector.Relative.{Relative, roll-Relative}
 use Rattle.css_selectors.specs.declared.selector.Selector.{Selector}
 use Rattle.css_selectors.specs.declared.selector.Simple.{Simple}
 use Rattle.css_selectors.specs.declared.selector.Tail.TheVariants as tail
@@ -19,6 +21,9 @@ named name simples = single (Some name) simples
 
 abbrev pub any : List Simple → Selector
 any simples = single None simples
+
+abbrev pub relative : List Part → Relative
+relative parts = roll-Relative (record { parts = parts })
 
 abbrev pub shows : Dialect → List Selector → List ℕ → Type 0
 shows dialect items text = printed dialect (record { items = items }) ≡ text
@@ -89,3 +94,18 @@ pub record WorkedTexts : Type 0 where
       (codes "descendant-or-self::li[self::*[count(preceding-sibling::li) = 0]]")
   -- :not(:not(a))
   pub twice_negated : shows Html (any (is_not (test.Any weight.Most (compound None (is_not (test.Element (Some (codes "a"))) ∷ []) ∷ [])) ∷ []) ∷ []) (codes "descendant-or-self::*[not(self::*[not(self::a)])]")
+  -- ul:has(> li.x + li)
+  pub has_child : shows Html
+      (named (codes "ul")
+      (is (test.Has (relative (part link.Child (Some (codes "li")) (is (test.Class (codes "x")) ∷ []) ∷ part link.Next (Some (codes "li")) [] ∷ []) ∷ [])) ∷ []) ∷ [])
+      (codes "descendant-or-self::ul[child::li[@class and contains(concat(' ', normalize-space(@class), ' '), ' x ')]/following-sibling::*[1][self::li]]")
+  -- h1:has(+ p, ~ ul)
+  pub has_sibling : shows Html
+      (named (codes "h1")
+      (is (test.Has (relative (part link.Next (Some (codes "p")) [] ∷ []) ∷ relative (part link.Later (Some (codes "ul")) [] ∷ []) ∷ [])) ∷ []) ∷ [])
+      (codes "descendant-or-self::h1[following-sibling::*[1][self::p] or following-sibling::ul]")
+  -- p:not(:has(a))
+  pub has_not : shows Html
+      (named (codes "p")
+      (is_not (test.Any weight.Most (compound None (is (test.Has (relative (part link.Descendant (Some (codes "a")) [] ∷ []) ∷ [])) ∷ []) ∷ [])) ∷ []) ∷ [])
+      (codes "descendant-or-self::p[not(self::*[descendant::a])]")

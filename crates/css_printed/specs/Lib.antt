@@ -1,6 +1,8 @@
 pub mod Conditions
 pub mod Examples
 pub mod Expression
+pub mod LinkPredicates
+pub mod Links
 pub mod LiteralLaw
 pub mod Literals
 pub mod Names

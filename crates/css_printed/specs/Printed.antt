@@ -1,31 +1,17 @@
 -- The XPath text of a selector list, as bytes.
-use Rattle.std.specs.Prelude.{ℕ, List, [], ◌∷◌, ◌++◌, flat_map, map, Option, Some, None, codes}
+use Rattle.std.specs.Prelude.{ℕ, List, [], ◌∷◌, ◌++◌, flat_map, map, codes}
 use Rattle.css_selectors.specs.declared.selector.Dialect.{Dialect}
-use Rattle.css_selectors.specs.declared.selector.Link.{Link}
-use Rattle.css_selectors.specs.declared.selector.Link.TheVariants as link
-use Rattle.css_selectors.specs.declared.selector.Part.{Part, out-Part}
+use Rattle.css_selectors.specs.declared.selector.Part.{Part}
 use Rattle.css_selectors.specs.declared.selector.Selector.{Selector}
 use Rattle.css_selectors.specs.declared.selector.SelectorList.{SelectorList}
 use Rattle.css_selectors.specs.declared.selector.Tail.{Tail}
 use Rattle.css_selectors.specs.declared.selector.Tail.TheVariants as tail
-use Rattle.css_printed.specs.Names.{element_text, attribute_text}
-use Rattle.css_printed.specs.TestTexts.{simple_text}
+use Rattle.css_printed.specs.Names.{attribute_text}
+use Rattle.css_printed.specs.TestTexts.{part_steps}
 
--- the name of the nearest sibling, which is counted before its name is looked at
-abbrev pub next_text : Dialect → Option (List ℕ) → List ℕ
-next_text dialect None = []
-next_text dialect (Some n) = codes "[self::" ++ (element_text dialect (Some n) ++ codes "]")
-
--- a part's axis and element
-abbrev pub step_text : Dialect → Link → Option (List ℕ) → List ℕ
-step_text dialect link.First element = codes "descendant-or-self::" ++ element_text dialect element
-step_text dialect link.Descendant element = codes "/descendant::" ++ element_text dialect element
-step_text dialect link.Child element = codes "/" ++ element_text dialect element
-step_text dialect link.Next element = codes "/following-sibling::*[1]" ++ next_text dialect element
-step_text dialect link.Later element = codes "/following-sibling::" ++ element_text dialect element
-
+-- a part behind the one before it
 abbrev pub part_text : Dialect → Part → List ℕ
-part_text dialect p = step_text dialect (out-Part p).link (out-Part p).element ++ flat_map (λ s. simple_text dialect s (out-Part p).element) (out-Part p).simples
+part_text dialect p = (part_steps dialect p).further
 
 abbrev pub tail_text : Dialect → Tail → List ℕ
 tail_text dialect tail.Element = []
