@@ -15,16 +15,17 @@ use Rattle.css_selectors.specs.declared.selector.Nth.{Nth}
 use Rattle.css_selectors.specs.declared.selector.Nth.TheVariants as nth
 use Rattle.css_selectors.specs.declared.selector.Op.{Op}
 use Rattle.css_selectors.specs.declared.selector.Op.TheVariants as op
-use Rattle.css_selectors.specs.declared.selector.Part.{Part, out-Part}
+use Rattle.css_selectors.specs.declared.selector.Part.{Part}
 use Rattle.css_selectors.specs.declared.selector.Pseudo.{Pseudo}
 use Rattle.css_selectors.specs.declared.selector.Pseudo.TheVariants as pseudo
+use Rattle.css_selectors.specs.declared.selector.Relative.{Relative}
 use Rattle.css_selectors.specs.declared.selector.Selector.{Selector}
 use Rattle.css_selectors.specs.declared.selector.SelectorList.{SelectorList}
 use Rattle.css_selectors.specs.declared.selector.Simple.{Simple}
 use Rattle.css_selectors.specs.declared.selector.Tail.{Tail}
 use Rattle.css_selectors.specs.declared.selector.Tail.TheVariants as tail
 use Rattle.css_selectors.specs.declared.selector.Test.{Test}
-use Rattle.css_selectors.specs.declared.selector.Test.TheFolds.{fold-Test, fold-Compound, fold-Simple}
+use Rattle.css_selectors.specs.declared.selector.Test.TheFolds.{fold-Test, fold-Compound, fold-Part, fold-Relative, fold-Simple}
 use Rattle.css_selectors.specs.declared.selector.Test.TheOpen as open_
 use Rattle.css_selectors.specs.WellMade.{innermost}
 use Rattle.css_selectors.specs.declared.selector.Compound.{Compound}
@@ -202,6 +203,28 @@ lang_terms Generic x = in_square (call f.Lang (literal x))
 lang_terms Html x =
     in_square (on_axis axis.AncestorOrSelf (t.AnyName ∷ (in_square (plain_attribute (codes "lang")) ++ (in_square (number 1 ∷ []) ++ in_square (lang_begins x)))))
 
+-- ---- links
+
+abbrev pub next_terms : Dialect → Option (List ℕ) → List Term
+next_terms d None = []
+next_terms d (Some n) = in_square (on_axis axis.OwnSelf (element d (Some n)))
+
+-- a part's axis and element, where no other step stands before it
+abbrev pub first_terms : Dialect → Link → Option (List ℕ) → List Term
+first_terms d link.First el = on_axis axis.DescendantOrSelf (element d el)
+first_terms d link.Descendant el = on_axis axis.Descendant (element d el)
+first_terms d link.Child el = on_axis axis.Child (element d el)
+first_terms d link.Next el = on_axis axis.FollowingSibling (t.AnyName ∷ (in_square (number 1 ∷ []) ++ next_terms d el))
+first_terms d link.Later el = on_axis axis.FollowingSibling (element d el)
+
+-- the same behind a `/`
+abbrev pub link_step_terms : Dialect → Link → Option (List ℕ) → List Term
+link_step_terms d link.First el = first_terms d link.First el
+link_step_terms d link.Descendant el = first_terms d link.Descendant el
+link_step_terms d link.Child el = element d el
+link_step_terms d link.Next el = first_terms d link.Next el
+link_step_terms d link.Later el = first_terms d link.Later el
+
 -- ---- all tests
 
 -- the predicates of a test, and what stands in its negation
@@ -224,8 +247,18 @@ choice [] = []
 choice (x ∷ []) = x
 choice (x ∷ (y ∷ ys)) = x ++ (t.Or ∷ choice (y ∷ ys))
 
+-- a part as the first of a relative, and behind a `/`
+pub record Steps : Type 0 where
+  pub first : List Term
+  pub further : List Term
+
+-- one step behind the other
+abbrev pub path_terms : List Steps → List Term
+path_terms [] = []
+path_terms (x ∷ xs) = x.first ++ flat_map (λ y. t.Slash ∷ y.further) xs
+
 module _ (d : Dialect) where
-  abbrev pub test_step : open_.Test-F (ByName Said) (ByName (List Term)) (Unit {0}) (Unit {0}) (ByName (List Term)) → ByName Said
+  abbrev pub test_step : open_.Test-F (ByName Said) (ByName (List Term)) Steps (List Term) (ByName (List Term)) → ByName Said
   test_step (open_.Element n) around = alone (on_axis axis.OwnSelf (element d n))
   test_step (open_.Id x) around = by_itself (in_square (plain_attribute (codes "id") ++ (t.Equal ∷ literal x)))
   test_step (open_.Class x) around = by_itself (op_terms (attribute d (codes "class")) op.Word x)
@@ -235,45 +268,43 @@ module _ (d : Dialect) where
   test_step (open_.Contains x) around = by_itself (in_square (call f.Contains (t.Dot ∷ t.Comma ∷ literal x)))
   test_step (open_.Lang x) around = by_itself (lang_terms d x)
   test_step (open_.Any w list) around = alone (choice (map (λ c. c around) list))
-  test_step (open_.Has list) around = by_itself []
+  test_step (open_.Has list) around = by_itself (in_square (choice list))
 
-  abbrev pub simple_step : open_.Simple-F (ByName Said) (ByName (List Term)) (Unit {0}) (Unit {0}) (ByName (List Term)) → ByName (List Term)
+  abbrev pub simple_step : open_.Simple-F (ByName Said) (ByName (List Term)) Steps (List Term) (ByName (List Term)) → ByName (List Term)
   simple_step x around = if x.negated then in_square (call f.Not (x.test around).inside) else (x.test around).brackets
 
-  abbrev pub compound_step : open_.Compound-F (ByName Said) (ByName (List Term)) (Unit {0}) (Unit {0}) (ByName (List Term)) → ByName (List Term)
+  abbrev pub compound_step : open_.Compound-F (ByName Said) (ByName (List Term)) Steps (List Term) (ByName (List Term)) → ByName (List Term)
   compound_step c around = on_axis axis.OwnSelf (element d c.element ++ flat_map (λ x. x (innermost around c.element)) c.simples)
 
-  abbrev pub part_step : open_.Part-F (ByName Said) (ByName (List Term)) (Unit {0}) (Unit {0}) (ByName (List Term)) → Unit {0}
-  part_step p = tt
+  abbrev pub part_step : open_.Part-F (ByName Said) (ByName (List Term)) Steps (List Term) (ByName (List Term)) → Steps
+  part_step p = record {
+    first = first_terms d p.link p.element ++ flat_map (λ x. x p.element) p.simples;
+    further = link_step_terms d p.link p.element ++ flat_map (λ x. x p.element) p.simples;
+  }
 
-  abbrev pub relative_step : open_.Relative-F (ByName Said) (ByName (List Term)) (Unit {0}) (Unit {0}) (ByName (List Term)) → Unit {0}
-  relative_step r = tt
+  abbrev pub relative_step : open_.Relative-F (ByName Said) (ByName (List Term)) Steps (List Term) (ByName (List Term)) → List Term
+  relative_step r = path_terms r.parts
 
   unfoldable pub test_terms : Test → ByName Said
-  test_terms = fold-Test (ByName Said) (ByName (List Term)) (Unit {0}) (Unit {0}) (ByName (List Term)) test_step compound_step part_step relative_step simple_step
+  test_terms = fold-Test (ByName Said) (ByName (List Term)) Steps (List Term) (ByName (List Term)) test_step compound_step part_step relative_step simple_step
 
   unfoldable pub compound_terms : Compound → ByName (List Term)
-  compound_terms = fold-Compound (ByName Said) (ByName (List Term)) (Unit {0}) (Unit {0}) (ByName (List Term)) test_step compound_step part_step relative_step simple_step
+  compound_terms = fold-Compound (ByName Said) (ByName (List Term)) Steps (List Term) (ByName (List Term)) test_step compound_step part_step relative_step simple_step
+
+  unfoldable pub part_steps : Part → Steps
+  part_steps = fold-Part (ByName Said) (ByName (List Term)) Steps (List Term) (ByName (List Term)) test_step compound_step part_step relative_step simple_step
+
+  unfoldable pub relative_terms : Relative → List Term
+  relative_terms = fold-Relative (ByName Said) (ByName (List Term)) Steps (List Term) (ByName (List Term)) test_step compound_step part_step relative_step simple_step
 
   unfoldable pub simple_terms : Simple → ByName (List Term)
-  simple_terms = fold-Simple (ByName Said) (ByName (List Term)) (Unit {0}) (Unit {0}) (ByName (List Term)) test_step compound_step part_step relative_step simple_step
+  simple_terms = fold-Simple (ByName Said) (ByName (List Term)) Steps (List Term) (ByName (List Term)) test_step compound_step part_step relative_step simple_step
 
 -- ---- parts, tails, selectors and lists
 
-abbrev pub next_terms : Dialect → Option (List ℕ) → List Term
-next_terms d None = []
-next_terms d (Some n) = in_square (on_axis axis.OwnSelf (element d (Some n)))
-
--- a part's axis and element, without the `/` before it
-abbrev pub link_step_terms : Dialect → Link → Option (List ℕ) → List Term
-link_step_terms d link.First el = on_axis axis.DescendantOrSelf (element d el)
-link_step_terms d link.Descendant el = on_axis axis.Descendant (element d el)
-link_step_terms d link.Child el = element d el
-link_step_terms d link.Next el = on_axis axis.FollowingSibling (t.AnyName ∷ (in_square (number 1 ∷ []) ++ next_terms d el))
-link_step_terms d link.Later el = on_axis axis.FollowingSibling (element d el)
-
+-- a part behind a `/`
 abbrev pub part_terms : Dialect → Part → List Term
-part_terms d p = link_step_terms d (out-Part p).link (out-Part p).element ++ flat_map (λ s. simple_terms d s (out-Part p).element) (out-Part p).simples
+part_terms d p = (part_steps d p).further
 
 -- the tail's step, without the `/` before it
 abbrev pub tail_terms : Dialect → Tail → List Term
@@ -289,8 +320,7 @@ ending_terms d (tail.Attr n) = t.Slash ∷ tail_terms d (tail.Attr n)
 
 -- further parts, each with its `/`
 abbrev pub further_terms : Dialect → List Part → List Term
-further_terms d [] = []
-further_terms d (p ∷ ps) = (t.Slash ∷ part_terms d p) ++ further_terms d ps
+further_terms d ps = flat_map (λ p. t.Slash ∷ part_terms d p) ps
 
 abbrev pub parts_terms : Dialect → List Part → List Term
 parts_terms d [] = []
