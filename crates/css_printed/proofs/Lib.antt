@@ -19,6 +19,7 @@ pub mod MeansNth
 pub mod MeansParts
 pub mod MeansPositions
 pub mod MeansPseudo
+pub mod MeansRelatives
 pub mod MeansSiblings
 pub mod MeansSuffix
 pub mod MeansTests
@@ -33,6 +34,7 @@ pub mod PrintedAt
 pub mod ReadBack
 pub mod Readings
 pub mod ReadsAttributes
+pub mod ReadsLinks
 pub mod ReadsNames
 pub mod ReadsPieces
 pub mod ReadsPositions
@@ -43,6 +45,7 @@ pub mod Rooms
 pub mod SpellChoices
 pub mod SpellConditions
 pub mod SpellFixed
+pub mod SpellLinks
 pub mod SpellLists
 pub mod SpellLiterals
 pub mod SpellNames
@@ -55,6 +58,7 @@ pub mod Spelling
 pub mod TemplateTerms
 pub mod Theorem
 pub mod Typed
+pub mod TypesChoices
 pub mod TypesPieces
 pub mod TypesSelectors
 pub mod TypesTests

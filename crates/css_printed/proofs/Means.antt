@@ -21,7 +21,6 @@ use Rattle.css_meaning.proofs.HoldsAt.{held_element}
 use Rattle.css_meaning.specs.Matching.{holds, linked, leads, reaches_by, gives, answered, answers}
 use Rattle.css_meaning.proofs.ListTests as lists
 use Rattle.xpath_values.specs.declared.value.Value.TheVariants.{Nodes}
-use Rattle.xpath_parser.specs.declared.expression.Expr.{Expr}
 use Rattle.xpath_parser.specs.declared.expression.Expr.TheVariants as e
 use Rattle.xpath_parser.specs.declared.expression.Start.TheVariants.{Here}
 use Rattle.xpath_parser.specs.declared.expression.Step.{Step}
@@ -29,8 +28,9 @@ use Rattle.xpath_parser.specs.Conversions.{rows_of}
 use Rattle.xpath_parser.specs.Functions.{Context}
 use Rattle.xpath_parser.specs.Denote.{Walk, has, path, rows_in, denote, walk_of}
 use Rattle.xpath_parser.proofs.Equations.{at_path, at_here, at_union}
-use Rattle.css_printed.specs.Expression.{part_step, tail_steps, selector_steps, selector_expression, expression}
+use Rattle.css_printed.specs.Expression.{tail_steps, selector_steps, selector_expression, expression}
 use Rattle.css_printed.specs.Predicates.{step, attribute_step}
+use Rattle.css_printed.specs.TestPredicates.{step_of}
 use Rattle.css_printed.proofs.Links.{near}
 use Rattle.css_printed.proofs.Paths as paths
 use Rattle.css_printed.proofs.Paths.{chain, path_append, path_chain, path_rows, one_step, in_rows_in}
@@ -46,7 +46,7 @@ module _ (doc : Document) (d : Dialect) where
   related p x y = near doc (out-Part p).link x y && holds doc d p y
 
   abbrev pub walk : Part → Walk
-  walk p = walk_of doc (part_step d p)
+  walk p = walk_of doc (step_of d p)
 
   abbrev pub StepGives : (ℕ → Bool) → Part → Type 0
   StepGives kind p = paths.Gives doc walk related kind p
@@ -66,7 +66,7 @@ module _ (doc : Document) (d : Dialect) where
   AllGive [] = ⊥
   AllGive (p ∷ ps) = ((out-Part p).link ≡ link.First) × StepGives any_row p × AllByRecursion Further ps
 
-  near_linked : (l : Link) (x y : ℕ) → l ≢ link.First → near doc l x y ≡ linked doc l x y
+  pub near_linked : (l : Link) (x y : ℕ) → l ≢ link.First → near doc l x y ≡ linked doc l x y
   near_linked link.First x y h = absurd (h refl)
   near_linked link.Descendant x y h = refl
   near_linked link.Child x y h = refl
@@ -88,15 +88,15 @@ module _ (doc : Document) (d : Dialect) where
       ∙ ap (λ l. near doc l c y && (holds doc d p y && chain doc related ps y r)) first
       ∙ ap (λ b. ((eqb y c) || below doc c y) && (holds doc d p y && b)) (chain_leads ps y r h)) (rows doc)
 
-  all_step : (ps : List Part) → AllByRecursion Further ps → AllByRecursion (StepGives (is_element doc)) ps
+  pub all_step : (ps : List Part) → AllByRecursion Further ps → AllByRecursion (StepGives (is_element doc)) ps
   all_step [] h = tt
   all_step (p ∷ ps) h = (h.0.step, all_step ps h.1)
 
-  all_stay : (ps : List Part) → AllByRecursion (paths.Stays doc walk related (is_element doc)) ps
+  pub all_stay : (ps : List Part) → AllByRecursion (paths.Stays doc walk related (is_element doc)) ps
   all_stay [] = tt
   all_stay (p ∷ ps) = (related_element p, all_stay ps)
 
-  walks : (ps : List Part) → map (walk_of doc) (map (part_step d) ps) ≡ map walk ps
+  pub walks : (ps : List Part) → map (walk_of doc) (map (step_of d) ps) ≡ map walk ps
   walks [] = refl
   walks (p ∷ ps) = ap (λ ws. walk p ∷ ws) (walks ps)
 
@@ -107,7 +107,7 @@ module _ (doc : Document) (d : Dialect) where
 
   -- the steps of the parts give the rows that the parts reach
   pub parts_rows : (parts : List Part) (c : ℕ) → AllGive parts
-      → path doc (c ∷ []) (map (walk_of doc) (map (part_step d) parts)) ≡ filter (λ r. reaches_by doc d parts c r) (rows doc)
+      → path doc (c ∷ []) (map (walk_of doc) (map (step_of d) parts)) ≡ filter (λ r. reaches_by doc d parts c r) (rows doc)
   parts_rows [] c h = absurd h
   parts_rows (p ∷ ps) c h =
       ap (path doc (c ∷ [])) (walks (p ∷ ps))
@@ -188,8 +188,8 @@ module _ (doc : Document) (d : Dialect) where
 
   pub selector_rows : (s : Selector) (c : ℕ) → SelectorGives s → path doc (c ∷ []) (map (walk_of doc) (selector_steps d s)) ≡ filter (λ r. answered doc d s c r) (rows doc)
   selector_rows s c h =
-      ap (path doc (c ∷ [])) (map-append (walk_of doc) (map (part_step d) s.parts) (tail_steps d s.tail))
-      ∙ path_append doc (c ∷ []) (map (walk_of doc) (map (part_step d) s.parts)) (map (walk_of doc) (tail_steps d s.tail))
+      ap (path doc (c ∷ [])) (map-append (walk_of doc) (map (step_of d) s.parts) (tail_steps d s.tail))
+      ∙ path_append doc (c ∷ []) (map (walk_of doc) (map (step_of d) s.parts)) (map (walk_of doc) (tail_steps d s.tail))
       ∙ ap (λ xs. path doc xs (map (walk_of doc) (tail_steps d s.tail))) (parts_rows s.parts c h)
       ∙ any_tail s.tail (λ e. reaches_by doc d s.parts c e) (reaches_element s.parts c)
 

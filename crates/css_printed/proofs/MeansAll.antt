@@ -5,7 +5,7 @@ use Rattle.std.specs.List.{list_any, AllByRecursion}
 use Rattle.std.specs.Str.{bytes_eq}
 use Rattle.std.proofs.lemmas.List.Elements.{recursion_from_All}
 use Rattle.doc_model.specs.declared.Axis.TheVariants as axis
-use Rattle.doc_model.specs.Document.{Document, rows, IsDocument}
+use Rattle.doc_model.specs.Document.{Document, rows, is_element, IsDocument}
 use Rattle.css_selectors.specs.declared.selector.Dialect.{Dialect}
 use Rattle.css_selectors.specs.declared.selector.Dialect.TheVariants.{Generic, Html}
 use Rattle.css_selectors.specs.declared.selector.Op.{Op}
@@ -16,14 +16,14 @@ use Rattle.css_selectors.specs.declared.selector.Compound.{Compound, out-Compoun
 use Rattle.css_selectors.specs.declared.selector.Test.{Test, out-Test, roll-Test}
 use Rattle.css_selectors.specs.declared.selector.Test.TheOpen as open_
 use Rattle.css_selectors.specs.declared.selector.Test.TheViews as views
-use Rattle.css_selectors.specs.Words.{is_word_op, test_asks, compound_asks, part_asks, simple_asks}
+use Rattle.css_selectors.specs.Words.{is_word_op, test_asks, compound_asks, part_asks, relative_asks, simple_asks}
 use Rattle.css_selectors.proofs.Mapped.{any_map}
 use Rattle.css_selectors.proofs.WordsAt as words_at
 use Rattle.css_meaning.specs.Names.{folded}
 use Rattle.css_meaning.specs.Attributes.{has_value, attribute_holds}
 use Rattle.css_meaning.specs.Limits.{Countable, NoFormFeed}
-use Rattle.css_selectors.specs.WellMade.{FitsTest, FitsSimple, FitsPseudo, Nowhere, innermost, IsPart, IsSelector, WellMade}
-use Rattle.css_meaning.specs.Holding.{test_holds, compound_holds, simple_holds}
+use Rattle.css_selectors.specs.WellMade.{FitsTest, FitsRelative, FitsSimple, FitsPseudo, Nowhere, innermost, IsPart, IsSelector, WellMade}
+use Rattle.css_meaning.specs.Holding.{test_holds, compound_holds, relative_holds, simple_holds}
 use Rattle.css_meaning.specs.Names.{has_name}
 use Rattle.css_meaning.specs.Simples.{pseudo_holds}
 use Rattle.css_meaning.specs.Matching.{matches_by, gives, answered, answers}
@@ -32,27 +32,29 @@ use Rattle.css_meaning.proofs.ListTests as lists
 use Rattle.css_meaning.proofs.Finding.{row_within}
 use Rattle.css_meaning.proofs.Backwards.{matches_law}
 use Rattle.css_selectors.specs.declared.selector.Part.{Part, out-Part}
+use Rattle.css_selectors.specs.declared.selector.Relative.{Relative, out-Relative}
 use Rattle.css_selectors.specs.declared.selector.Selector.{Selector}
 use Rattle.css_selectors.specs.declared.selector.SelectorList.{SelectorList}
 use Rattle.css_selectors.specs.declared.selector.Simple.{Simple}
-use Rattle.std.proofs.lemmas.Bool.{or_left, or_right}
+use Rattle.std.proofs.lemmas.Bool.{and_parts, or_left, or_right}
 use Rattle.xpath_values.specs.declared.value.Value.TheVariants.{Nodes}
 use Rattle.xpath_parser.specs.Functions.{Context}
 use Rattle.xpath_parser.specs.Denote.{denote}
 use Rattle.css_printed.specs.Expression.{expression}
 use Rattle.css_printed.specs.Promise.{IsWithin, alone, matched}
 use Rattle.css_printed.proofs.MeansLanguage.{lang_is}
-use Rattle.css_printed.proofs.Means.{SelectorGives, denote_list}
+use Rattle.css_printed.proofs.Means.{Further, SelectorGives, denote_list}
 use Rattle.xpath_parser.specs.declared.expression.Expr.{Expr}
 use Rattle.css_printed.specs.Predicates.{attribute, plain_attribute, elements, equals, literal, not_one, op_predicate, pseudo_predicates}
 use Rattle.css_printed.specs.TestPredicates as q
-use Rattle.css_printed.specs.TestPredicates.{Asked, test_asked, compound_expression}
-use Rattle.css_printed.proofs.PrintedAt.{Layer, asked_layer, asked_at, asked_at_simple, asked_at_any}
+use Rattle.css_printed.specs.TestPredicates.{Asked, test_asked, compound_expression, relative_expression}
+use Rattle.css_printed.proofs.PrintedAt.{Layer, FitsPart, asked_layer, asked_at, asked_at_simple, asked_at_any}
 use Rattle.css_printed.proofs.MeansChoices.{SimpleKeeps, simples_keep, Tells, keep_tells, keep_not, tells_choice, compound_tells}
 use Rattle.css_printed.proofs.PathsKept.{Keep, keep_same}
 use Rattle.css_printed.proofs.MeansNames.{at_attribute, at_plain_attribute}
 use Rattle.css_printed.proofs.MeansValues.{is_never}
-use Rattle.css_printed.proofs.MeansParts.{is_named_element, element_row, PartKeeps, all_give}
+use Rattle.css_printed.proofs.MeansParts.{is_named_element, element_row, PartKeeps, further_part, all_give}
+use Rattle.css_printed.proofs.MeansRelatives.{relative_tells}
 use Rattle.css_printed.proofs.MeansAttributes.{exists_is, equals_is, dash_is, prefix_is, substring_is, suffix_is, word_is}
 use Rattle.css_printed.proofs.MeansPseudo.{empty_is, root_is, contains_is, link_is, checked_is, enabled_is, disabled_is, in_html_is}
 use Rattle.css_printed.proofs.MeansSiblings.{position_keeps, only_child, only_of_type}
@@ -134,6 +136,32 @@ module _ (doc : Document) (is : IsDocument doc) (c : Countable doc) (d : Dialect
         compounds_tell Fits inside around ih vs (λ w. calm (or_right (compound_asks v) _ w)) h.1 y named,
       )
 
+  -- a part whose simples fit, where Fits is asked of each with the part's element around it
+  fitting_keeps : (Fits : Option (List ℕ) → Simple → Type 0) → ((a : Option (List ℕ)) (s : Simple) → (simple_asks s ≡ true → NoFormFeed doc) → Fits a s → SimpleKeeps doc d a s)
+      → (p : Part) → All (Fits (out-Part p).element) (out-Part p).simples → (part_asks p ≡ true → NoFormFeed doc) → PartKeeps doc d p
+  fitting_keeps Fits ih p fits calm =
+      let el : Option (List ℕ) = (out-Part p).element in
+      simples_keep doc d el (out-Part p).simples
+      (all_of (Fits el) el (ih el) (out-Part p).simples (λ w. calm (words_at.at_part p ∙ w)) (recursion_from_All (Fits el) (out-Part p).simples fits))
+
+  parts_go_on : (Fits : Option (List ℕ) → Simple → Type 0) → ((a : Option (List ℕ)) (s : Simple) → (simple_asks s ≡ true → NoFormFeed doc) → Fits a s → SimpleKeeps doc d a s)
+      → (ps : List Part) → AllByRecursion (FitsPart Fits) ps → (list_any part_asks ps ≡ true → NoFormFeed doc)
+      → AllByRecursion (Further doc d) ps
+  parts_go_on Fits ih [] h calm = tt
+  parts_go_on Fits ih (p ∷ ps) h calm =
+      (further_part doc d p h.0.0 (fitting_keeps Fits ih p h.0.1 (λ w. calm (or_left (part_asks p) _ w))), parts_go_on Fits ih ps h.1 (λ w. calm (or_right (part_asks p) _ w)))
+
+  relatives_tell : (Fits : Option (List ℕ) → Simple → Type 0) → ((a : Option (List ℕ)) (s : Simple) → (simple_asks s ≡ true → NoFormFeed doc) → Fits a s → SimpleKeeps doc d a s)
+      → (list : List Relative) → (list_any relative_asks list ≡ true → NoFormFeed doc) → AllByRecursion (FitsRelative Fits) list
+      → (y : ℕ) → is_element doc y ≡ true → AllByRecursion (λ r. Tells doc (relative_expression d r) y (relative_holds doc d r y)) list
+  relatives_tell Fits ih [] calm h y element = tt
+  relatives_tell Fits ih (r ∷ rs) calm h y element = (
+    relative_tells doc d r h.0.0 (parts_go_on Fits ih (out-Relative r).parts
+        (recursion_from_All (FitsPart Fits) (out-Relative r).parts h.0.1)
+        (λ w. calm (or_left (relative_asks r) _ (words_at.at_relative r ∙ w)))) y element,
+    relatives_tell Fits ih rs (λ w. calm (or_right (relative_asks r) _ w)) h.1 y element,
+  )
+
   layer_keeps : (Fits : Bool → Option (List ℕ) → Simple → Type 0)
       → ((inside : Bool) (a : Option (List ℕ)) (s : Simple) → (simple_asks s ≡ true → NoFormFeed doc) → Fits inside a s → SimpleKeeps doc d a s)
       → (room inside negated : Bool) (around : Option (List ℕ)) (l : Layer) → (test_asks (roll-Test l) ≡ true → NoFormFeed doc) → FitsTest Fits room inside around negated l → TestKeeps around (roll-Test l)
@@ -159,7 +187,13 @@ module _ (doc : Document) (is : IsDocument doc) (c : Countable doc) (d : Dialect
       (compounds_tell Fits inside around (λ a s k h. ih inside a s k h) list (λ h. calm (words_at.at_layer (open_.Any w list) ∙ any_map (λ b. b) compound_asks list ∙ h))
       (recursion_from_All (λ v. All (Fits inside (innermost around (out-Compound v).element)) (out-Compound v).simples) list fits.2) y named)) in
       made around (open_.Any w list) p (holds_at.at_layer doc d (open_.Any w list)) (subst (λ a. Kept around a p) (sym (asked_at_any d w list around)) all)
-  layer_keeps Fits ih room inside negated around (open_.Has list) calm fits = absurd fits
+  layer_keeps Fits ih room inside negated around (open_.Has list) calm fits =
+      let a : Expr = q.choice (map (relative_expression d) list) in
+      let p : ℕ → Bool = λ y. list_any (λ h. h y) (map (relative_holds doc d) list) in
+      made around (open_.Has list) p (holds_at.at_layer doc d (open_.Has list)) (of_itself around (a ∷ []) p (keep_tells doc (is_named_element doc d around) a p (λ y named.
+      tells_choice doc (relative_expression d) (relative_holds doc d) list y
+      (relatives_tell (Fits true) (λ b s k h. ih true b s k h) list (λ h. calm (words_at.at_layer (open_.Has list) ∙ any_map (λ b. b) relative_asks list ∙ h))
+      (recursion_from_All (FitsRelative (Fits true)) list fits.3) y (and_parts (is_element doc y) _ named).0))))
 
   signed : (around : Option (List ℕ)) (s : Simple) (b : Bool) → s.negated ≡ b → TestKeeps around s.test → SimpleKeeps doc d around s
   signed around s true e h =
@@ -187,10 +221,7 @@ module _ (doc : Document) (is : IsDocument doc) (c : Countable doc) (d : Dialect
   -- ---- parts and selectors
 
   part_keeps : (p : Part) → IsPart p → (part_asks p ≡ true → NoFormFeed doc) → PartKeeps doc d p
-  part_keeps p fits calm =
-      simples_keep doc d (out-Part p).element (out-Part p).simples
-      (all_of (FitsSimple 8 false (out-Part p).element) (out-Part p).element (simple_keeps 8 false (out-Part p).element) (out-Part p).simples (λ w. calm (words_at.at_part p ∙ w))
-      (recursion_from_All (FitsSimple 8 false (out-Part p).element) (out-Part p).simples fits))
+  part_keeps p fits calm = fitting_keeps (FitsSimple 8 false) (simple_keeps 8 false) p fits calm
 
   parts_keep : (ps : List Part) → AllByRecursion IsPart ps → (list_any part_asks ps ≡ true → NoFormFeed doc) → AllByRecursion (PartKeeps doc d) ps
   parts_keep [] fits calm = tt

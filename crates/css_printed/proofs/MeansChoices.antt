@@ -35,13 +35,13 @@ module _ (doc : Document) where
     pub truth : truth_of value ≡ b
     pub keeps_it : (i : ℕ) → keeps (suc i) value ≡ b
 
-  tells_nodes : (a : Expr) (y : ℕ) (ys : List ℕ) (b : Bool) → Value_at doc a y (Nodes ys) → is_any ys ≡ b → Tells a y b
+  pub tells_nodes : (a : Expr) (y : ℕ) (ys : List ℕ) (b : Bool) → Value_at doc a y (Nodes ys) → is_any ys ≡ b → Tells a y b
   tells_nodes a y ys b h same = record { value = Nodes ys; at = h; truth = same; keeps_it = λ i. same }
 
   tells_truth : (a : Expr) (y : ℕ) (b : Bool) → Value_at doc a y (Truth b) → Tells a y b
   tells_truth a y b h = record { value = Truth b; at = h; truth = refl; keeps_it = λ i. refl }
 
-  tells_same : (a a' : Expr) (y : ℕ) (b b' : Bool) → a ≡ a' → b ≡ b' → Tells a' y b' → Tells a y b
+  pub tells_same : (a a' : Expr) (y : ℕ) (b b' : Bool) → a ≡ a' → b ≡ b' → Tells a' y b' → Tells a y b
   tells_same a a' y b b' e f t = subst (λ v. Tells v y b) (sym e) (subst (λ v. Tells a' y v) (sym f) t)
 
   pub keep_tells : (kind : ℕ → Bool) (a : Expr) (p : ℕ → Bool) → ((y : ℕ) → kind y ≡ true → Tells a y (p y)) → Keep doc kind (a ∷ []) p

@@ -21,7 +21,7 @@ use Rattle.css_meaning.proofs.ListTests as lists
 use Rattle.css_meaning.proofs.Finding.{in_rows}
 use Rattle.xpath_parser.specs.declared.expression.Expr.{Expr}
 use Rattle.xpath_parser.specs.Denote.{has, walk_of}
-use Rattle.css_printed.specs.Expression.{axis_of, link_test, link_brackets, next_brackets}
+use Rattle.css_printed.specs.LinkPredicates.{axis_of, link_test, link_brackets, next_brackets}
 use Rattle.css_printed.specs.Predicates.{step, node_test, name_brackets, elements}
 use Rattle.css_printed.specs.TestPredicates.{simple_predicates}
 use Rattle.css_printed.proofs.Links.{near, principal_by, axis_near, axis_descendant, axis_child, axis_later}
@@ -30,6 +30,7 @@ use Rattle.css_printed.proofs.LinksNext.{next_has}
 use Rattle.css_printed.proofs.MeansValues.{is_nodes, any_kept}
 use Rattle.css_printed.proofs.MeansNames.{at_elements, element_kept, keep_element, passes_element, element_principal}
 use Rattle.css_printed.proofs.Means.{any_row, StepGives, Further, AllGive}
+use Rattle.css_printed.proofs.PrintedAt.{asked_at_part}
 
 regrouped : (on l e f k q n : Bool) → (e ≡ true → on ≡ l) → (f ≡ true → e ≡ true) → (f && k) ≡ (e && n) → ((k && q) && (on && f)) ≡ (l && (e && (n && q)))
 regrouped on l true true k q n same to_e kept = ap (λ b. (b && q) && (on && true)) kept ∙ ap (λ b. (n && q) && b) (lists.and_true on ∙ same refl) ∙ turn (n && q) l
@@ -128,7 +129,7 @@ module _ (doc : Document) (d : Dialect) where
 
   part_gives : (kind : ℕ → Bool) (p : Part)
       → LinkGives kind (out-Part p).link (out-Part p).element (flat_map (λ s. simple_predicates d s (out-Part p).element) (out-Part p).simples) (all_hold (out-Part p).simples) → StepGives doc d kind p
-  part_gives kind p h x y is among = h x y is among ∙ ap (λ b. near doc (out-Part p).link x y && b) (sym (at_part doc d p y))
+  part_gives kind p h x y is among = ap (λ s. has y (walk_of doc s x)) (asked_at_part d p) ∙ h x y is among ∙ ap (λ b. near doc (out-Part p).link x y && b) (sym (at_part doc d p y))
 
   first_at : (l : Link) (el : Option (List ℕ)) (es : List Expr) (q : ℕ → Bool) → l ≡ link.First → Keep doc (is_named_element el) es q → LinkGives any_row l el es q
   first_at l el es q e keep = subst (λ v. LinkGives any_row v el es q) (sym e) (first_gives el es q keep)
@@ -136,13 +137,13 @@ module _ (doc : Document) (d : Dialect) where
   first_part : (p : Part) → (out-Part p).link ≡ link.First → PartKeeps p → StepGives doc d any_row p
   first_part p e h = part_gives any_row p (first_at (out-Part p).link (out-Part p).element (flat_map (λ s. simple_predicates d s (out-Part p).element) (out-Part p).simples) (all_hold (out-Part p).simples) e h)
 
-  further_part : (p : Part) → (out-Part p).link ≢ link.First → PartKeeps p → Further doc d p
+  pub further_part : (p : Part) → (out-Part p).link ≢ link.First → PartKeeps p → Further doc d p
   further_part p f h = record {
     link = f;
     step = part_gives (is_element doc) p (further_gives (out-Part p).link (out-Part p).element (flat_map (λ s. simple_predicates d s (out-Part p).element) (out-Part p).simples) (all_hold (out-Part p).simples) f h);
   }
 
-  further_parts : (ps : List Part) → AllByRecursion (λ q. (out-Part q).link ≢ link.First) ps → AllByRecursion PartKeeps ps → AllByRecursion (Further doc d) ps
+  pub further_parts : (ps : List Part) → AllByRecursion (λ q. (out-Part q).link ≢ link.First) ps → AllByRecursion PartKeeps ps → AllByRecursion (Further doc d) ps
   further_parts [] f h = tt
   further_parts (p ∷ ps) f h = (further_part p f.0 h.0, further_parts ps f.1 h.1)
 

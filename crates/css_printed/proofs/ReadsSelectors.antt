@@ -1,12 +1,9 @@
 -- Parts, tails, selectors and lists, as expressions.
-use Rattle.std.proofs.Common.{◌≡◌, refl, sym, ap, subst, ◌<◌, ℕ, List, [], ◌∷◌, ◌++◌, map, length, append-nil, append_assoc, Option, Some, None, arith}
+use Rattle.std.proofs.Common.{◌≡◌, refl, sym, ap, subst, ◌<◌, List, [], ◌∷◌, ◌++◌, map, length, append-nil, append_assoc, arith}
 use Rattle.std.specs.List.{AllByRecursion}
 use Rattle.std.proofs.lemmas.List.Elements.{recursion_from_All}
-use Rattle.doc_model.specs.declared.Axis.TheVariants as axis
 use Rattle.css_selectors.specs.declared.selector.Dialect.{Dialect}
-use Rattle.css_selectors.specs.declared.selector.Link.{Link}
-use Rattle.css_selectors.specs.declared.selector.Link.TheVariants as link
-use Rattle.css_selectors.specs.declared.selector.Part.{Part, out-Part}
+use Rattle.css_selectors.specs.declared.selector.Part.{Part}
 use Rattle.css_selectors.specs.declared.selector.Selector.{Selector}
 use Rattle.css_selectors.specs.declared.selector.SelectorList.{SelectorList}
 use Rattle.css_selectors.specs.declared.selector.Tail.{Tail}
@@ -15,57 +12,36 @@ use Rattle.css_selectors.specs.WellMade.{WellMade, IsSelector, IsPart, AreLinked
 use Rattle.xpath_parser.specs.declared.expression.Expr.{Expr}
 use Rattle.xpath_parser.specs.declared.expression.Expr.TheVariants as e
 use Rattle.xpath_parser.specs.declared.expression.Start.TheVariants as start
-use Rattle.xpath_parser.specs.declared.expression.Step.{Step}
 use Rattle.xpath_parser.specs.declared.term.Term.{Term}
 use Rattle.xpath_parser.specs.declared.term.Term.TheVariants as t
 use Rattle.xpath_parser.specs.Grammar as g
 use Rattle.xpath_parser.specs.Grammar.{Reads, ReadsWhole, Operands}
-use Rattle.css_printed.specs.Expression.{part_step, link_test, link_brackets, axis_of, next_brackets, tail_steps, selector_expression, expression, united}
-use Rattle.css_printed.specs.Predicates.{step}
+use Rattle.css_printed.specs.Expression.{tail_steps, selector_expression, expression, united}
+use Rattle.css_printed.specs.TestPredicates.{step_of}
 use Rattle.css_printed.proofs.Readings.{up, whole, to_5, to_8}
-use Rattle.css_printed.proofs.ReadsPieces.{Brackets, no_brackets, bracket, join, any_tested, text_tested, with, axis_step, child_step, number_reads}
-use Rattle.css_printed.proofs.ReadsNames.{element_tested, elements_read, attribute_step_reads}
-use Rattle.css_printed.proofs.ReadsTests.{part_simples_read}
+use Rattle.css_printed.proofs.ReadsPieces.{text_tested, child_step}
+use Rattle.css_printed.proofs.ReadsNames.{attribute_step_reads}
+use Rattle.css_printed.proofs.ReadsTests.{MoreSteps, no_more, PartReads, parts_behind, part_reads}
 use Rattle.css_printed.proofs.TemplateTerms as p
-
--- ---- parts
-
-next_reads : (d : Dialect) (el : Option (List ℕ)) → Brackets (p.next_terms d el) (next_brackets d el)
-next_reads d None = no_brackets
-next_reads d (Some n) = bracket (whole (elements_read d axis.OwnSelf (Some n)))
-
-link_reads : (d : Dialect) (l : Link) (el : Option (List ℕ)) {ts : List Term} {ps : List Expr} → Brackets ts ps
-    → Reads (p.link_step_terms d l el ++ ts) (g.step (step (axis_of l) (link_test d l el) (link_brackets d l el ++ ps)))
-link_reads d link.First el h = axis_step axis.DescendantOrSelf (with (element_tested d el) h)
-link_reads d link.Descendant el h = axis_step axis.Descendant (with (element_tested d el) h)
-link_reads d link.Child el h = child_step (with (element_tested d el) h)
-link_reads d link.Next el h = axis_step axis.FollowingSibling (with (with any_tested (join (bracket (whole (number_reads 1))) (next_reads d el))) h)
-link_reads d link.Later el h = axis_step axis.FollowingSibling (with (element_tested d el) h)
-
-pub part_reads : (d : Dialect) (q : Part) → IsPart q → Reads (p.part_terms d q) (g.step (part_step d q))
-part_reads d q h = link_reads d (out-Part q).link (out-Part q).element (part_simples_read d q h)
 
 -- ---- the steps of a selector
 
--- a step, and the tail behind it
-ending_reads : (d : Dialect) (u : Tail) {a : List Term} {s : Step} → Reads a (g.step s) → Reads (a ++ p.ending_terms d u) (g.steps (s ∷ tail_steps d u))
-ending_reads d tail.Element {a} {s} r = let P : List Term → Type 0 = λ ts. Reads ts (g.steps (s ∷ [])) in subst P (sym (append-nil a)) (g.steps_one r)
-ending_reads d tail.Text r = g.steps_more r (g.steps_one (child_step text_tested)) refl
-ending_reads d (tail.Attr n) r = g.steps_more r (g.steps_one (attribute_step_reads d n)) refl
+ending_behind : (d : Dialect) (u : Tail) → MoreSteps (p.ending_terms d u) (tail_steps d u)
+ending_behind d tail.Element = no_more
+ending_behind d tail.Text = record { read = λ a s r. g.steps_more r (g.steps_one (child_step text_tested)) refl }
+ending_behind d (tail.Attr n) = record { read = λ a s r. g.steps_more r (g.steps_one (attribute_step_reads d n)) refl }
 
--- a step, the parts and the tail behind it
-pub steps_read : (d : Dialect) (u : Tail) (ps : List Part) {a : List Term} {s : Step} → Reads a (g.step s) → AllByRecursion IsPart ps
-    → Reads (a ++ (p.further_terms d ps ++ p.ending_terms d u)) (g.steps (s ∷ (map (part_step d) ps ++ tail_steps d u)))
-steps_read d u [] r h = ending_reads d u r
-steps_read d u (q ∷ ps) {a} r h =
-    g.steps_more r (steps_read d u ps (part_reads d q h.0) h.1) (ap (λ v. a ++ t.Slash ∷ v) (append_assoc (p.part_terms d q) (p.further_terms d ps) (p.ending_terms d u)))
+all_read : (d : Dialect) (ps : List Part) → AllByRecursion IsPart ps → AllByRecursion (PartReads d) ps
+all_read d [] h = tt
+all_read d (q ∷ ps) h = (part_reads d q h.0, all_read d ps h.1)
 
 parts_read : (d : Dialect) (u : Tail) (ps : List Part) → AreLinked ps → AllByRecursion IsPart ps
-    → Reads (p.parts_terms d ps ++ p.ending_terms d u) (g.at 0 (e.Path start.Here (map (part_step d) ps ++ tail_steps d u)))
+    → Reads (p.parts_terms d ps ++ p.ending_terms d u) (g.at 0 (e.Path start.Here (map (step_of d) ps ++ tail_steps d u)))
 parts_read d u [] l h = absurd l
 parts_read d u (q ∷ ps) l h =
-    let P : List Term → Type 0 = λ ts. Reads ts (g.steps (part_step d q ∷ (map (part_step d) ps ++ tail_steps d u))) in
-    g.path_here (subst P (sym (append_assoc (p.part_terms d q) (p.further_terms d ps) (p.ending_terms d u))) (steps_read d u ps (part_reads d q h.0) h.1))
+    let P : List Term → Type 0 = λ ts. Reads ts (g.steps (step_of d q ∷ (map (step_of d) ps ++ tail_steps d u))) in
+    g.path_here (subst P (sym (append_assoc (p.part_terms d q) (p.further_terms d ps) (p.ending_terms d u)))
+    ((parts_behind d ps (p.ending_terms d u) (tail_steps d u) (ending_behind d u) (all_read d ps h.1)).read (p.part_terms d q) (step_of d q) (part_reads d q h.0).further))
 
 pub selector_reads : (d : Dialect) (s : Selector) → IsSelector s → Reads (p.selector_terms d s) (g.at 0 (selector_expression d s))
 selector_reads d s h = parts_read d s.tail s.parts h.links (recursion_from_All IsPart s.parts h.parts)

@@ -1,7 +1,7 @@
 -- Simple selectors in printed texts, at every depth, with room for the brackets of so many levels: three a level, and eight for
 -- what stands innermost.
-use Rattle.std.proofs.Common.{◌≡◌, refl, sym, ◌∙◌, ap, subst, ℕ, zero, suc, ◌<◌, arith, Bool, true, false, ◌&&◌, cond, List, [], ◌∷◌, ◌++◌, map, length, codes, append_assoc, Option, Some, None}
-use Rattle.std.specs.Prelude.{All, encode_utf8_all}
+use Rattle.std.proofs.Common.{◌≡◌, refl, sym, ◌∙◌, ap, subst, ℕ, zero, suc, ◌<◌, arith, Bool, true, false, cond, List, [], ◌∷◌, ◌++◌, map, length, codes, append_assoc, Option, Some, None}
+use Rattle.std.specs.Prelude.{◌≢◌, All, encode_utf8_all}
 use Rattle.std.specs.List.{flat_map, list_all, AllByRecursion}
 use Rattle.std.specs.Str.{chars}
 use Rattle.std.proofs.lemmas.Bool.{and_parts}
@@ -9,28 +9,34 @@ use Rattle.std.proofs.lemmas.List.Elements.{recursion_from_All}
 use Rattle.doc_model.specs.declared.Axis.TheVariants as axis
 use Rattle.css_selectors.specs.declared.selector.Compound.{Compound, out-Compound}
 use Rattle.css_selectors.specs.declared.selector.Dialect.{Dialect}
+use Rattle.css_selectors.specs.declared.selector.Link.{Link}
+use Rattle.css_selectors.specs.declared.selector.Link.TheVariants as link
 use Rattle.css_selectors.specs.declared.selector.Op.TheVariants as op
 use Rattle.css_selectors.specs.declared.selector.Part.{Part, out-Part}
+use Rattle.css_selectors.specs.declared.selector.Relative.{Relative, out-Relative}
 use Rattle.css_selectors.specs.declared.selector.Simple.{Simple}
 use Rattle.css_selectors.specs.declared.selector.Test.{Test, out-Test, roll-Test}
 use Rattle.css_selectors.specs.declared.selector.Test.TheOpen as open_
 use Rattle.css_selectors.specs.declared.selector.Test.TheViews as views
-use Rattle.css_selectors.specs.Texts.{test_texts, compound_texts, part_texts, simple_texts}
-use Rattle.css_selectors.specs.WellMade.{FitsTest, FitsSimple, Nowhere, innermost, IsPart}
+use Rattle.css_selectors.specs.Texts.{test_texts, compound_texts, part_texts, relative_texts, simple_texts}
+use Rattle.css_selectors.specs.WellMade.{FitsTest, FitsRelative, FitsSimple, Nowhere, innermost, IsPart}
 use Rattle.css_selectors.proofs.TextsAt as texts_at
-use Rattle.std.proofs.lemmas.List.Folds.{list_all-map}
+use Rattle.std.proofs.lemmas.List.Folds.{flat_map-map, list_all-map}
 use Rattle.xpath_lexer.specs.Tokens.{Text}
 use Rattle.xpath_parser.specs.declared.expression.Func.TheVariants as f
 use Rattle.xpath_parser.specs.declared.term.Term.{Term}
 use Rattle.xpath_parser.specs.declared.term.Term.TheVariants as t
 use Rattle.xpath_parser.specs.Terms.{axis_names, function_names, node_type_names, operator_names}
+use Rattle.css_printed.specs.Links.{first_text, step_text}
 use Rattle.css_printed.specs.Literals.{literal_text}
 use Rattle.css_printed.specs.Names.{element_text, attribute_text}
+use Rattle.css_printed.specs.Printed.{part_text, parts_text}
 use Rattle.css_printed.specs.TestTexts as s
-use Rattle.css_printed.specs.TestTexts.{Said, test_said, compound_text, simple_text}
-use Rattle.css_printed.proofs.PrintedAt.{Layer, text_layer, text_at, text_at_simple, text_at_compound, text_at_any, terms_layer, terms_at, terms_at_simple, terms_at_compound, terms_at_any}
+use Rattle.css_printed.specs.TestTexts.{Said, Steps, test_said, compound_text, part_steps, relative_text, simple_text}
+use Rattle.css_printed.proofs.PrintedAt.{Layer, FitsPart, text_layer, text_at, text_at_simple, text_at_compound, text_at_first, text_at_part, text_at_relative, text_at_any, terms_layer, terms_at, terms_at_simple, terms_at_compound, terms_at_first, terms_at_part, terms_at_relative, terms_at_any}
 use Rattle.css_printed.proofs.SpellConditions.{nth_puts}
 use Rattle.css_printed.proofs.SpellFixed.{Puts, Piece, ◌⨾◌, fix, said, then_puts, nothing_puts, choose_puts}
+use Rattle.css_printed.proofs.SpellLinks.{first_puts, further_puts}
 use Rattle.css_printed.proofs.SpellLiterals.{literal_puts}
 use Rattle.css_printed.proofs.SpellNames.{IsElementText, element_puts, attribute_puts}
 use Rattle.css_printed.proofs.SpellOps.{six}
@@ -38,7 +44,7 @@ use Rattle.css_printed.proofs.SpellPseudo.{pseudo_puts, lang_puts}
 use Rattle.css_printed.proofs.SpellTests.{eight, self_puts, not_self_puts, id_puts, contains_puts, not_puts}
 use Rattle.css_printed.proofs.SpellValues.{op_puts}
 use Rattle.css_printed.proofs.TemplateTerms as terms
-use Rattle.css_printed.proofs.TemplateTerms.{test_terms, compound_terms, simple_terms}
+use Rattle.css_printed.proofs.TemplateTerms.{test_terms, compound_terms, relative_terms, simple_terms}
 
 -- three brackets a level
 abbrev pub thrice : ℕ → ℕ → ℕ
@@ -79,6 +85,16 @@ negated_puts n x ts h r =
     let one : Piece (suc (eight (thrice n r))) false (suc (eight (thrice n r))) true = record { text = x; terms = ts; puts = one_more n x ts h r } in
     let all : Piece (suc (suc (suc (eight (thrice n r))))) true (suc (suc (suc (eight (thrice n r))))) true = fix (codes "[not(") (λ rest. refl) refl ⨾ one ⨾ fix (codes ")]") (λ rest. refl) refl in
     said all (terms.in_square (terms.call f.Not ts)) (simp append_assoc refl)
+
+-- negated at the element itself, one level further out
+not_itself_puts : (n : ℕ) (x : Text) (ts : List Term) → Begins n x ts
+    → Follows (suc n) (codes "[not(self::*[" ++ ((x ++ codes "]") ++ codes ")]")) (terms.in_square (terms.call f.Not (terms.itself (terms.in_square ts))))
+unfolding axis_names function_names node_type_names operator_names chars
+not_itself_puts n x ts h r =
+    let one : Piece (eight (thrice n r)) false (eight (thrice n r)) true = record { text = x; terms = ts; puts = h r } in
+    let all : Piece (suc (suc (suc (eight (thrice n r))))) true (suc (suc (suc (eight (thrice n r))))) true = fix (codes "[not(self::*[") (λ rest. refl) refl ⨾ one ⨾ fix (codes "])]") (λ rest. refl) refl in
+    let P : Text → Type 0 = λ v. Puts (suc (suc (suc (eight (thrice n r))))) true (suc (suc (suc (eight (thrice n r))))) true (codes "[not(self::*[" ++ v) (terms.in_square (terms.call f.Not (terms.itself (terms.in_square ts)))) in
+    subst P (sym (append_assoc x (codes "]") (codes ")]"))) (said all (terms.in_square (terms.call f.Not (terms.itself (terms.in_square ts)))) (simp append_assoc refl))
 
 -- an element and more at the element itself
 self_follows : (d : Dialect) (n : ℕ) (el : Option (List ℕ)) (x : Text) (ts : List Term) → IsElementText el → Follows n x ts
@@ -124,6 +140,10 @@ of_name d n el h = record {
 
 of_choice : (n : ℕ) (x : Text) (ts : List Term) → Begins n x ts → Spells (suc n) (s.alone x) (terms.alone ts)
 of_choice n x ts h = record { plainly = bracket_puts n x ts h; negated = negated_puts n x ts h }
+
+-- some paths in brackets
+of_paths : (n : ℕ) (x : Text) (ts : List Term) → Begins n x ts → Spells (suc n) (s.by_itself (codes "[" ++ (x ++ codes "]"))) (terms.by_itself (terms.in_square ts))
+of_paths n x ts h = record { plainly = bracket_puts n x ts h; negated = not_itself_puts n x ts h }
 
 pub all_true : {X : Type 0} (p : X → Bool) (xs : List X) → list_all p xs ≡ true → AllByRecursion (λ v. p v ≡ true) xs
 all_true p [] h = tt
@@ -173,6 +193,78 @@ module _ (d : Dialect) where
         compounds_begin Fits inside n around a ih cs g.1 h.1,
       )
 
+  -- ---- a relative
+
+  -- a part where no other step stands before it, as the first of a selector, and behind another part
+  pub record PartSpells (n : ℕ) (p : Part) : Type 0 where
+    pub first : Begins n (part_steps d p).first (terms.part_steps d p).first
+    pub leading : (out-Part p).link ≡ link.First → Begins n (part_text d p) (terms.part_terms d p)
+    pub further : (out-Part p).link ≢ link.First → Follows n (part_text d p) (t.Slash ∷ terms.part_terms d p)
+
+  same_begins : (n : ℕ) {x y : Text} {ts us : List Term} → x ≡ y → ts ≡ us → Begins n y us → Begins n x ts
+  same_begins n {x} {y} {ts} {us} e k h = subst (λ v. Begins n v ts) (sym e) (subst (λ v. Begins n y v) (sym k) h)
+
+  same_follows : (n : ℕ) {x y : Text} {ts us : List Term} → x ≡ y → ts ≡ us → Follows n y us → Follows n x ts
+  same_follows n {x} {y} {ts} {us} e k h = subst (λ v. Follows n v ts) (sym e) (subst (λ v. Follows n y v) (sym k) h)
+
+  -- a part whose simples fit, where Fits is asked of each with the part's element around it
+  fitting_spells : (n : ℕ) (Fits : Option (List ℕ) → Simple → Type 0) → ((a : Option (List ℕ)) (x : Simple) → IsElementText a → simple_texts x ≡ true → Fits a x → SimpleSpells n a x)
+      → (p : Part) → part_texts p ≡ true → All (Fits (out-Part p).element) (out-Part p).simples → PartSpells n p
+  fitting_spells n Fits ih p g fits =
+      let l : Link = (out-Part p).link in
+      let el : Option (List ℕ) = (out-Part p).element in
+      let both : (IsElementText el) × (list_all simple_texts (out-Part p).simples ≡ true) = and_parts _ _ (sym (texts_at.at_part p) ∙ g) in
+      let x : Text = flat_map (λ v. simple_text d v el) (out-Part p).simples in
+      let ts : List Term = flat_map (λ v. simple_terms d v el) (out-Part p).simples in
+      let more : Follows n x ts = simples_spell n el (out-Part p).simples (all_of (Fits el) n el (λ v k f. ih el v both.0 k f) (out-Part p).simples
+      (all_true simple_texts (out-Part p).simples both.1) (recursion_from_All (Fits el) (out-Part p).simples fits)) in
+      let behind : (a : Bool) (y : Text) (us : List Term) (r : ℕ) → Puts (eight (thrice n r)) a (eight (thrice n r)) true y us → Puts (eight (thrice n r)) a (eight (thrice n r)) true (y ++ x) (us ++ ts) =
+      λ a y us r h. then_puts (eight (thrice n r)) a (eight (thrice n r)) true (eight (thrice n r)) true y x us ts h (more r) in
+      let P : ℕ → Link → Type 0 = λ r v. Puts (eight (thrice n r)) false (eight (thrice n r)) true (step_text d v el) (terms.link_step_terms d v el) in
+      record {
+        first = same_begins n (text_at_first d p) (terms_at_first d p) (λ r. behind false (first_text d l el) (terms.first_terms d l el) r (first_puts d l el both.0 (thrice n r)));
+        leading = λ e. same_begins n (text_at_part d p) (terms_at_part d p)
+            (λ r. behind false (step_text d l el) (terms.link_step_terms d l el) r (subst (P r) (sym e) (first_puts d link.First el both.0 (thrice n r))));
+        further = λ k. same_follows n (text_at_part d p) (ap (λ v. t.Slash ∷ v) (terms_at_part d p))
+            (λ r. behind true (step_text d l el) (t.Slash ∷ terms.link_step_terms d l el) r (further_puts d l el k both.0 (thrice n r)));
+      }
+
+  pub parts_follow : (n : ℕ) (ps : List Part) → AllByRecursion (λ p. (out-Part p).link ≢ link.First) ps → AllByRecursion (PartSpells n) ps → Follows n (parts_text d ps) (terms.further_terms d ps)
+  parts_follow n [] k h r = nothing_puts (eight (thrice n r)) true
+  parts_follow n (p ∷ ps) k h r =
+      then_puts (eight (thrice n r)) true (eight (thrice n r)) true (eight (thrice n r)) true (part_text d p) (parts_text d ps) (t.Slash ∷ terms.part_terms d p) (terms.further_terms d ps)
+      (h.0.further k.0 r) (parts_follow n ps k.1 h.1 r)
+
+  path_begins : (n : ℕ) (ps : List Part) → 0 < length ps → AllByRecursion (λ p. (out-Part p).link ≢ link.First) ps → AllByRecursion (PartSpells n) ps
+      → Begins n (s.path_text (map (part_steps d) ps)) (terms.path_terms (map (terms.part_steps d) ps))
+  path_begins n [] some k h = absurd (let no : ⊥ = omega arith in no)
+  path_begins n (p ∷ ps) some k h =
+      same_begins n (ap (λ v. (part_steps d p).first ++ v) (flat_map-map (λ (y : Steps). y.further) (part_steps d) ps))
+      (ap (λ v. (terms.part_steps d p).first ++ v) (flat_map-map (λ (y : terms.Steps). t.Slash ∷ y.further) (terms.part_steps d) ps))
+      (λ r. then_puts (eight (thrice n r)) false (eight (thrice n r)) true (eight (thrice n r)) true (part_steps d p).first (parts_text d ps) (terms.part_steps d p).first (terms.further_terms d ps)
+      (h.0.first r) (parts_follow n ps k.1 h.1 r))
+
+  relatives_begin : (Fits : Option (List ℕ) → Simple → Type 0) (n : ℕ) → ((a : Option (List ℕ)) (x : Simple) → IsElementText a → simple_texts x ≡ true → Fits a x → SimpleSpells n a x)
+      → (list : List Relative) → AllByRecursion (λ v. relative_texts v ≡ true) list → AllByRecursion (FitsRelative Fits) list
+      → AllByRecursion (λ v. Begins n (relative_text d v) (relative_terms d v)) list
+  relatives_begin Fits n ih [] g h = tt
+  relatives_begin Fits n ih (v ∷ vs) g h =
+      let fits : AllByRecursion (FitsPart Fits) (out-Relative v).parts = recursion_from_All (FitsPart Fits) (out-Relative v).parts h.0.1 in (
+        same_begins n (text_at_relative d v) (terms_at_relative d v) (path_begins n (out-Relative v).parts h.0.0 (all_linked (out-Relative v).parts fits)
+            (all_spell (out-Relative v).parts (all_true part_texts (out-Relative v).parts (sym (texts_at.at_relative v) ∙ g.0)) fits)),
+        relatives_begin Fits n ih vs g.1 h.1,
+      )
+    where
+      all_linked : (ps : List Part) → AllByRecursion (FitsPart Fits) ps → AllByRecursion (λ p. (out-Part p).link ≢ link.First) ps
+      all_linked [] k = tt
+      all_linked (p ∷ ps) k = (k.0.0, all_linked ps k.1)
+
+      all_spell : (ps : List Part) → AllByRecursion (λ p. part_texts p ≡ true) ps → AllByRecursion (FitsPart Fits) ps → AllByRecursion (PartSpells n) ps
+      all_spell [] t k = tt
+      all_spell (p ∷ ps) t k = (fitting_spells n Fits ih p t.0 k.0.1, all_spell ps t.1 k.1)
+
+  -- ---- each test
+
   abbrev TestSpells : ℕ → Option (List ℕ) → Test → Type 0
   TestSpells n around u = Spells n (test_said d u around) (test_terms d u around)
 
@@ -209,7 +301,13 @@ module _ (d : Dialect) where
       (subst (λ k. Spells k (text_layer d (open_.Any w list) around) (terms_layer d (open_.Any w list) around)) (levels fits.0)
       (subst (λ v. Spells (suc m) v (terms_layer d (open_.Any w list) around)) (sym (text_at_any d w list around))
       (subst (λ v. Spells (suc m) (s.alone x) v) (sym (terms_at_any d w list around)) (of_choice m x ts all))))
-  layer_spells Fits m n ih room inside negated levels around a (open_.Has list) g fits = absurd fits
+  layer_spells Fits m n ih room inside negated levels around a (open_.Has list) g fits =
+      let texts : AllByRecursion (λ v. relative_texts v ≡ true) list = all_true relative_texts list (sym (list_all-map (λ b. b) relative_texts list) ∙ sym (texts_at.at_layer (open_.Has list)) ∙ g) in
+      let x : Text = s.choice (map (relative_text d) list) in
+      let ts : List Term = terms.choice (map (relative_terms d) list) in
+      let all : Begins m x ts = choice_puts m (relative_text d) (relative_terms d) list fits.2
+      (relatives_begin (Fits true) m (λ b v k h fit. ih true b v k h fit) list texts (recursion_from_All (FitsRelative (Fits true)) list fits.3)) in
+      made n around (open_.Has list) (subst (λ k. Spells k (text_layer d (open_.Has list) around) (terms_layer d (open_.Has list) around)) (levels fits.0) (of_paths m x ts all))
 
   by_layer : (Fits : Bool → Option (List ℕ) → Simple → Type 0) (m n : ℕ) → ((inside : Bool) (a : Option (List ℕ)) (x : Simple) → IsElementText a → simple_texts x ≡ true → Fits inside a x → SimpleSpells m a x)
       → (room inside : Bool) → (room ≡ true → suc m ≡ n) → (around : Option (List ℕ)) (x : Simple) → IsElementText around → simple_texts x ≡ true → FitsTest Fits room inside around x.negated (out-Test x.test) → SimpleSpells n around x
@@ -228,11 +326,5 @@ module _ (d : Dialect) where
   simple_spells zero inside around x a g fits = by_layer Nowhere zero zero (λ i b y k h none. absurd none) false inside (λ e. cc) around x a g fits
   simple_spells (suc n) inside around x a g fits = by_layer (FitsSimple n) n (suc n) (λ i b y k h fit. simple_spells n i b y k h fit) true inside (λ e. refl) around x a g fits
 
-  -- the simples of a part
-  pub part_spells : (p : Part) → part_texts p ≡ true → IsPart p
-      → Follows 8 (flat_map (λ x. simple_text d x (out-Part p).element) (out-Part p).simples) (flat_map (λ x. simple_terms d x (out-Part p).element) (out-Part p).simples)
-  part_spells p g h =
-      let both : (IsElementText (out-Part p).element) × (list_all simple_texts (out-Part p).simples ≡ true) = and_parts _ _ (sym (texts_at.at_part p) ∙ g) in
-      simples_spell 8 (out-Part p).element (out-Part p).simples
-      (all_of (FitsSimple 8 false (out-Part p).element) 8 (out-Part p).element (λ x k fits. simple_spells 8 false (out-Part p).element x both.0 k fits) (out-Part p).simples
-      (all_true simple_texts (out-Part p).simples both.1) (recursion_from_All (FitsSimple 8 false (out-Part p).element) (out-Part p).simples h))
+  pub part_spells : (p : Part) → part_texts p ≡ true → IsPart p → PartSpells 8 p
+  part_spells p g h = fitting_spells 8 (FitsSimple 8 false) (λ b x a k fits. simple_spells 8 false b x a k fits) p g h

@@ -14,7 +14,7 @@ use Rattle.css_selectors.specs.declared.selector.Op.TheVariants as op
 use Rattle.css_selectors.specs.declared.selector.Pseudo.{Pseudo}
 use Rattle.css_selectors.specs.declared.selector.Pseudo.TheVariants as pseudo
 use Rattle.css_printed.specs.Literals.{literal_text}
-use Rattle.css_printed.specs.Names.{element_text, attribute_text}
+use Rattle.css_printed.specs.Names.{element_text}
 use Rattle.css_printed.specs.Conditions.{Condition, never, exactly, at_least, at_most, every, conditions}
 
 -- a predicate that holds at no row: no position is 0

@@ -1,5 +1,5 @@
 -- The predicates that the printed simple selectors read as, at every depth.
-use Rattle.std.specs.Prelude.{ℕ, if◌then◌else◌, List, [], ◌∷◌, ◌++◌, flat_map, map, codes}
+use Rattle.std.specs.Prelude.{if◌then◌else◌, List, [], ◌∷◌, ◌++◌, flat_map, map, codes}
 use Rattle.doc_model.specs.declared.Axis.TheVariants as axis
 use Rattle.doc_model.specs.declared.NodeTest.TheVariants as node
 use Rattle.css_selectors.specs.declared.selector.Compound.{Compound}
