@@ -1,15 +1,14 @@
 -- The grammar of lists of selectors, after Selectors Level 3, section 10.1, over the places of the tokens.
-use Rattle.std.specs.Prelude.{◌≡◌, ◌≢◌, ℕ, ◌+◌, nat_lt, true, false, if◌then◌else◌, List, [], ◌∷◌, length, Option, Some, None}
-use Rattle.css_selectors.specs.declared.selector.Link.{Link}
+use Rattle.std.specs.Prelude.{◌≡◌, ◌≢◌, ℕ, ◌+◌, true, false, List, [], ◌∷◌, length, Option, Some, None}
 use Rattle.css_selectors.specs.declared.selector.Link.TheVariants as link
 use Rattle.css_lexer.specs.declared.tokens.CssKind.TheVariants as kind
 use Rattle.css_lexer.specs.declared.tokens.CssToken.{CssToken}
 use Rattle.css_parser.specs.declared.pieces.Form.{Form}
 use Rattle.css_parser.specs.declared.pieces.Compound.{Compound}
 use Rattle.css_parser.specs.declared.pieces.ElementRead.{ElementRead}
-use Rattle.css_parser.specs.declared.pieces.LinkRead.{LinkRead}
 use Rattle.css_parser.specs.Places.{stands, skip}
 use Rattle.css_parser.specs.Choices.{simple, Forms}
+use Rattle.css_parser.specs.Links.{combinator}
 use Rattle.css_parser.specs.Simples.{element}
 
 -- from i up to j stand these simple selectors, choices and pseudo-elements
@@ -31,19 +30,6 @@ past_element (Some e) i = e.end
 pub record IsCompound (text : List ℕ) (ts : List CssToken) (i : ℕ) (c : Compound) (j : ℕ) : Type 0 where
   pub begins : HasElement (element ts i) c
   pub simples : Simples text ts (past_element (element ts i) i) c.forms j
-
-abbrev pub linked : List CssToken → Link → ℕ → LinkRead
-linked ts l i = record { link = l; end = skip ts i }
-
--- combinator: S, then `>`, `+` or `~` and S, or else one Space at least
-unfoldable pub combinator : List CssToken → ℕ → Option LinkRead
-combinator ts i =
-    let j = skip ts i in
-    if stands kind.Greater ts j then Some (linked ts link.Child (j + 1))
-    else (if stands kind.Plus ts j then Some (linked ts link.Next (j + 1))
-    else (if stands kind.Tilde ts j then Some (linked ts link.Later (j + 1))
-    else (if nat_lt i j then Some (linked ts link.Descendant i)
-    else None)))
 
 -- any number of a combinator and a compound, from i up to j
 abbrev pub Further : List ℕ → List CssToken → ℕ → List Compound → ℕ → Type 0

@@ -1,12 +1,12 @@
 -- What holds of all texts.
-use Rattle.std.specs.Prelude.{◌≡◌, ◌⊎◌, ℕ, ◌+◌, ◌≤◌, List, length, Option, Some, None}
+use Rattle.std.specs.Prelude.{◌≡◌, ◌⊎◌, Bool, ℕ, ◌+◌, ◌≤◌, List, length, Option, Some, None}
 use Rattle.css_lexer.specs.declared.tokens.CssToken.{CssToken}
 use Rattle.css_selectors.specs.declared.selector.SelectorList.{SelectorList}
 use Rattle.css_selectors.specs.WellMade.{WellMade}
 use Rattle.text_base.specs.declared.reasons.SelectorFault.{SelectorFault}
 use Rattle.css_parser.specs.declared.pieces.FormRead.{FormRead}
 use Rattle.css_parser.specs.Simples.{piece_at}
-use Rattle.css_parser.specs.Choices.{word_at, one_read, inners, deep_with, deep, simple_by}
+use Rattle.css_parser.specs.Choices.{word_at, one_read, deep_read, members, choice_with, deep, simple_by}
 use Rattle.css_parser.specs.Selecting.{Accepts, IsFault}
 
 -- a text is accepted as one list at most
@@ -30,7 +30,8 @@ IsWellMade = (text : List ℕ) (list : SelectorList) → Accepts text list → W
 
 -- the grammar has no depth: a choice is read by what stands in it, which is read in the same way
 abbrev pub IsReadAlike : Type 0
-IsReadAlike = (text : List ℕ) (ts : List CssToken) (i : ℕ) → i ≤ length ts → deep text ts i ≡ deep_with text ts (word_at ts i) (one_read (piece_at text ts i)) (inners text ts (deep text ts) (i + 2))
+IsReadAlike = (text : List ℕ) (ts : List CssToken) (i : ℕ) → i ≤ length ts
+    → deep text ts i ≡ choice_with text ts (word_at ts i) (one_read (piece_at text ts i)) (λ w. deep_read (members text ts (deep text ts) w (i + 2)))
 
 abbrev pub end_of : Option FormRead → Option ℕ
 end_of None = None
@@ -38,4 +39,4 @@ end_of (Some r) = Some r.end
 
 -- whether it is read, and where it ends, is the same whatever is kept of it
 abbrev pub KeepsEnds : Type 0
-KeepsEnds = (text : List ℕ) (ts : List CssToken) (n i : ℕ) → i ≤ length ts → end_of (simple_by text ts n i) ≡ end_of (deep text ts i)
+KeepsEnds = (text : List ℕ) (ts : List CssToken) (n i : ℕ) (within : Bool) → i ≤ length ts → end_of (simple_by text ts n within i) ≡ end_of (deep text ts i)

@@ -1,6 +1,7 @@
 pub mod Choices
 pub mod Grammar
 pub mod Laws
+pub mod Links
 pub mod Lists
 pub mod Names
 pub mod Nth

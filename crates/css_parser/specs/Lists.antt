@@ -11,6 +11,7 @@ use Rattle.css_parser.specs.declared.pieces.Piece.TheVariants as piece
 use Rattle.css_parser.specs.declared.pieces.Form.{Form, out-Form}
 use Rattle.css_parser.specs.declared.pieces.Form.TheOpen as open_
 use Rattle.css_parser.specs.declared.pieces.Inner.{Inner}
+use Rattle.css_parser.specs.declared.pieces.Member.{Member}
 use Rattle.css_parser.specs.declared.pieces.Compound.{Compound}
 use Rattle.css_parser.specs.Values.{form_simples}
 
@@ -26,7 +27,7 @@ piece_tail old piece.Unknown = old
 piece_tail old (piece.Large position) = old
 piece_tail old piece.Strange = old
 
-abbrev pub form_tail : Tail → open_.Form-F Form Inner → Tail
+abbrev pub form_tail : Tail → open_.Form-F Form Inner Member → Tail
 form_tail old (open_.One p) = piece_tail old p
 form_tail old (open_.Choice w xs) = old
 form_tail old open_.Deep = old

@@ -1,5 +1,5 @@
 -- For the contracts of private functions alone: readings that go as far as they can.
-use Rattle.std.specs.Prelude.{◌≡◌, ℕ, ◌<◌, ◌≤◌, ◌+◌, ◌-◌, ◌==◌, Bool, false, if◌then◌else◌, List, All, length, get_or, slice_range, count_by, ◌++◌, Option, Some, None, Result, Ok, Err}
+use Rattle.std.specs.Prelude.{◌≡◌, ℕ, ◌<◌, ◌≤◌, ◌+◌, ◌-◌, ◌==◌, Bool, false, if◌then◌else◌, List, [], ◌∷◌, All, length, get_or, slice_range, count_by, ◌++◌, Option, Some, None, Result, Ok, Err}
 use Rattle.css_selectors.specs.declared.selector.Link.{Link}
 use Rattle.css_lexer.specs.declared.tokens.CssToken.{CssToken}
 use Rattle.css_parser.specs.declared.pieces.Compound.{Compound}
@@ -10,17 +10,20 @@ use Rattle.css_parser.specs.declared.pieces.Form.TheVariants as form
 use Rattle.css_parser.specs.declared.pieces.Word.{Word}
 use Rattle.css_parser.specs.declared.pieces.FormsRead.{FormsRead}
 use Rattle.css_parser.specs.declared.pieces.InnerRead.{InnerRead}
+use Rattle.css_parser.specs.declared.pieces.Inner.{Inner}
 use Rattle.css_parser.specs.declared.pieces.InnersRead.{InnersRead}
+use Rattle.css_parser.specs.declared.pieces.ListRead.{ListRead}
 use Rattle.css_parser.specs.declared.pieces.CompoundRead.{CompoundRead}
 use Rattle.css_parser.specs.declared.pieces.SelectorRead.{SelectorRead}
 use Rattle.css_parser.specs.declared.pieces.LinkRead.{LinkRead}
-use Rattle.css_parser.specs.Choices.{Reader, Forms, simple, deep, form_read, word_at}
+use Rattle.css_parser.specs.Choices.{Reader, Forms, simple, deep, form_read, word_at, further_at}
 use Rattle.css_parser.specs.Simples.{is_opening, is_closing, is_more_closed}
 use Rattle.css_lexer.specs.declared.tokens.CssKind.TheVariants as kind
 use Rattle.css_parser.specs.Places.{stands}
 use Rattle.text_base.specs.declared.reasons.SelectorFault.{SelectorFault}
 use Rattle.text_base.specs.declared.reasons.SelectorFault.TheVariants as fault
-use Rattle.css_parser.specs.Grammar.{IsCompound, IsSelector, From, Reads, combinator}
+use Rattle.css_parser.specs.Grammar.{IsCompound, IsSelector, From, Reads}
+use Rattle.css_parser.specs.Links.{combinator}
 
 -- no compound is read at i
 abbrev pub NoCompound : List ℕ → List CssToken → ℕ → Type 0
@@ -79,6 +82,15 @@ EndsInner ts i (Some r) = IsBehind ts i r.end
 abbrev pub EndsInners : List CssToken → ℕ → Option InnersRead → Type 0
 EndsInners ts i None = Unit {0}
 EndsInners ts i (Some r) = IsBehind ts i r.end
+
+abbrev pub EndsList : List CssToken → ℕ → Option ListRead → Type 0
+EndsList ts i None = Unit {0}
+EndsList ts i (Some r) = IsBehind ts i r.end
+
+-- from i up to j stand these inners, each behind its combinator
+abbrev pub Parts : List ℕ → List CssToken → Reader → ℕ → List Inner → ℕ → Type 0
+Parts text ts f i [] j = i ≡ j
+Parts text ts f i (x ∷ xs) j = (k : ℕ) × (further_at text ts f i ≡ Some (record { inner = x; end = k })) × Parts text ts f k xs j
 
 abbrev pub deep_end : Option ℕ → Option FormRead
 deep_end None = None

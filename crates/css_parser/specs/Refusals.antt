@@ -1,5 +1,5 @@
 -- What is refused of a list that the grammar reads: the first from left to right.
-use Rattle.std.specs.Prelude.{ℕ, ◌&&◌, not, Bool, true, false, if◌then◌else◌, List, [], ◌∷◌, Option, Some, None}
+use Rattle.std.specs.Prelude.{ℕ, ◌&&◌, ◌||◌, not, Bool, true, false, if◌then◌else◌, List, [], ◌∷◌, Option, Some, None}
 use Rattle.text_base.specs.declared.reasons.SelectorFault.{SelectorFault}
 use Rattle.text_base.specs.declared.reasons.SelectorFault.TheVariants as fault
 use Rattle.css_selectors.specs.declared.selector.Nth.{Nth}
@@ -14,7 +14,9 @@ use Rattle.css_parser.specs.declared.pieces.Form.{Form}
 use Rattle.css_parser.specs.declared.pieces.Form.TheOpen as open_
 use Rattle.css_parser.specs.declared.pieces.Form.TheFolds as folds
 use Rattle.css_parser.specs.declared.pieces.Inner.{Inner}
+use Rattle.css_parser.specs.declared.pieces.Member.{Member}
 use Rattle.css_parser.specs.declared.pieces.Compound.{Compound}
+use Rattle.css_parser.specs.Choices.{is_has}
 
 abbrev pub is_none : Option (List ℕ) → Bool
 is_none None = true
@@ -70,28 +72,43 @@ abbrev pub by_forms : Bool → Bool → List ByPlace → Option SelectorFault
 by_forms nameless last [] = None
 by_forms nameless last (x ∷ xs) = or_else (x nameless (last && is_empty xs)) (by_forms nameless last xs)
 
-abbrev pub by_inners : Bool → List (Bool → Option SelectorFault) → Option SelectorFault
+-- the refusal of what stands in a choice, by whether no compound around it has an element's name
+abbrev pub ByName : Type 0
+ByName = Bool → Option SelectorFault
+
+abbrev pub by_inners : Bool → List ByName → Option SelectorFault
 by_inners nameless [] = None
 by_inners nameless (x ∷ xs) = or_else (x nameless) (by_inners nameless xs)
 
+abbrev pub member_layer : open_.Member-F ByPlace ByName ByName → ByName
+member_layer x nameless = by_inners nameless x.parts
+
 -- what stands in a choice is not the last of its selector
-abbrev pub inner_layer : open_.Inner-F ByPlace (Bool → Option SelectorFault) → Bool → Option SelectorFault
+abbrev pub inner_layer : open_.Inner-F ByPlace ByName ByName → ByName
 inner_layer x nameless = or_else (if_refused x.prefixed fault.Prefix) (by_forms (nameless && is_none x.element) false x.forms)
 
-abbrev pub form_layer : open_.Form-F ByPlace (Bool → Option SelectorFault) → ByPlace
+-- Of what is around a `has`, nothing counts as around what stands in it.
+abbrev pub form_layer : open_.Form-F ByPlace ByName ByName → ByPlace
 form_layer (open_.One p) nameless last = piece_refusal nameless last p
-form_layer (open_.Choice w xs) nameless last = by_inners nameless xs
+form_layer (open_.Choice w xs) nameless last = by_inners (is_has w || nameless) xs
 form_layer open_.Deep nameless last = Some fault.Nested
 
 unfoldable pub form_refusal : Bool → Bool → Form → Option SelectorFault
-form_refusal nameless last x = folds.fold-Form ByPlace (Bool → Option SelectorFault) form_layer inner_layer x nameless last
+form_refusal nameless last x = folds.fold-Form ByPlace ByName ByName form_layer inner_layer member_layer x nameless last
 
 unfoldable pub inner_refusal : Bool → Inner → Option SelectorFault
-inner_refusal nameless x = folds.fold-Inner ByPlace (Bool → Option SelectorFault) form_layer inner_layer x nameless
+inner_refusal nameless x = folds.fold-Inner ByPlace ByName ByName form_layer inner_layer member_layer x nameless
 
 abbrev pub inners_refusal : Bool → List Inner → Option SelectorFault
 inners_refusal nameless [] = None
 inners_refusal nameless (x ∷ xs) = or_else (inner_refusal nameless x) (inners_refusal nameless xs)
+
+unfoldable pub member_refusal : Bool → Member → Option SelectorFault
+member_refusal nameless x = folds.fold-Member ByPlace ByName ByName form_layer inner_layer member_layer x nameless
+
+abbrev pub members_refusal : Bool → List Member → Option SelectorFault
+members_refusal nameless [] = None
+members_refusal nameless (x ∷ xs) = or_else (member_refusal nameless x) (members_refusal nameless xs)
 
 abbrev pub forms_refusal : Bool → Bool → List Form → Option SelectorFault
 forms_refusal nameless last [] = None

@@ -146,7 +146,8 @@ word_called name =
     if is_called name (codes "is") then Some word.Is
     else (if is_called name (codes "where") then Some word.Where
     else (if is_called name (codes "not") then Some word.Not
-    else None))
+    else (if is_called name (codes "has") then Some word.Has
+    else None)))
 
 abbrev pub is_some : {A : Type 0} → Option A → Bool
 is_some None = false

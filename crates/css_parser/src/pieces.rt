@@ -45,6 +45,7 @@ pub(crate) enum Word {
     Is,
     Where,
     Not,
+    Has,
 }
 
 /// A simple selector or a pseudo-element, with what stands in it.
@@ -53,22 +54,31 @@ pub(crate) enum Word {
 pub(crate) enum Form {
     /// A piece that is no choice.
     One(Piece),
-    /// A choice, and what stands in it: at least one compound.
-    Choice(Word, Seq<Inner>),
-    /// A choice inside eight others. What stands in it is not kept.
+    /// A choice, and what stands in it: at least one member.
+    Choice(Word, Seq<Member>),
+    /// A choice inside eight others, or a `has` inside another. What stands in it is not kept.
     Deep,
 }
 
-/// A compound that stands in a choice.
+/// A compound that stands in a choice, and the combinator before it: none but in a relative.
 #[cycle(forms)]
 #[derive(Drop)]
 pub(crate) struct Inner {
+    pub(crate) link: Link,
     /// Whether an element stands in it.
     pub(crate) named: bool,
     /// The name of the element, or None for `*` or no element at all.
     pub(crate) element: Option<Txt>,
     pub(crate) prefixed: bool,
     pub(crate) forms: Seq<Form>,
+}
+
+/// What stands in a choice once: the compounds of a relative in a `has`, and one compound in any
+/// other.
+#[cycle(forms)]
+#[derive(Drop)]
+pub(crate) struct Member {
+    pub(crate) parts: Seq<Inner>,
 }
 
 /// A compound of a choice, and the place of the token after it.
@@ -78,10 +88,17 @@ pub(crate) struct InnerRead {
     pub(crate) end: usize,
 }
 
-/// The compounds of a choice, and the place of the token after its `)`.
+/// The compounds of a member, and the place of the token after the last.
 #[derive(Drop)]
 pub(crate) struct InnersRead {
     pub(crate) inners: Seq<Inner>,
+    pub(crate) end: usize,
+}
+
+/// What stands in a choice, and the place of the token after its `)`.
+#[derive(Drop)]
+pub(crate) struct ListRead {
+    pub(crate) list: Seq<Member>,
     pub(crate) end: usize,
 }
 
