@@ -1,10 +1,13 @@
--- Choices: where they end, more room than is needed changes nothing, and what the loops keep.
-use Rattle.std.proofs.Common.{◌≡◌, ℕ, zero, suc, ◌+◌, ◌-◌, ◌<◌, ◌≤◌, Bool, true, false, cond, List, [], ◌∷◌, ◌++◌, length, get_or, refl, sym, ◌∙◌, ap, subst, arith, append_assoc}
-use Rattle.std.specs.Prelude.{◌==◌, ◌≢◌, ◌↔◌, ◌&&◌, IsTrue, Option, Some, None}
+-- Choices: where they end, and more room than is needed changes nothing.
+use Rattle.std.proofs.Common.{◌≡◌, ℕ, zero, suc, ◌+◌, ◌-◌, ◌<◌, ◌≤◌, Bool, true, false, cond, List, [], ◌∷◌, ◌++◌, length, get_or, refl, sym, ◌∙◌, ap, subst, arith}
+use Rattle.std.specs.Prelude.{◌==◌, ◌≢◌, ◌↔◌, ◌&&◌, ◌||◌, IsTrue, Option, Some, None}
 use Rattle.std.proofs.lemmas.Bool.Decides.{nat_tests}
 use Rattle.css_lexer.specs.declared.tokens.CssKind.TheVariants as kind
 use Rattle.css_lexer.specs.declared.tokens.CssToken.{CssToken}
+use Rattle.css_selectors.specs.declared.selector.Link.{Link}
+use Rattle.css_selectors.specs.declared.selector.Link.TheVariants as link
 use Rattle.css_parser.specs.declared.pieces.Word.{Word}
+use Rattle.css_parser.specs.declared.pieces.Word.TheVariants as word
 use Rattle.css_parser.specs.declared.pieces.Form.{Form}
 use Rattle.css_parser.specs.declared.pieces.Read.{Read}
 use Rattle.css_parser.specs.declared.pieces.FormRead.{FormRead}
@@ -12,13 +15,17 @@ use Rattle.css_parser.specs.declared.pieces.FormsRead.{FormsRead}
 use Rattle.css_parser.specs.declared.pieces.Inner.{Inner}
 use Rattle.css_parser.specs.declared.pieces.InnerRead.{InnerRead}
 use Rattle.css_parser.specs.declared.pieces.InnersRead.{InnersRead}
+use Rattle.css_parser.specs.declared.pieces.Member.{Member}
+use Rattle.css_parser.specs.declared.pieces.ListRead.{ListRead}
+use Rattle.css_parser.specs.declared.pieces.LinkRead.{LinkRead}
 use Rattle.css_parser.specs.declared.pieces.ElementRead.{ElementRead}
 use Rattle.css_parser.specs.Places.{code_at, stands, skip}
 use Rattle.css_parser.specs.Simples.{element, piece_at}
-use Rattle.css_parser.specs.Choices.{word_at, form_read, one_read, choice_read, deep_read, Reader, Forms, forms_by, forms_from, inner_read, some_read, inner_with, front, inner_at, inners_by, inners_from, inners, deep_with, simple_with, deep_by, deep, simple_by, simple}
-use Rattle.css_parser.specs.Reading.{IsBehind, EndsElement, Ends, EndsForm, EndsInner, EndsInners, IsFormsRead, deep_end, IsTable}
+use Rattle.css_parser.specs.Links.{combinator, sign}
+use Rattle.css_parser.specs.Choices.{word_at, form_read, one_read, choice_read, deep_read, is_has, Reader, Forms, forms_by, forms_from, inner_read, some_read, inner_with, parts_by, alone, joined, member_of, front, inner_at, further_with, further_at, parts_from, member_at, list_by, list_from, members, choice_with, deep_by, deep, simple_by, simple}
+use Rattle.css_parser.specs.Reading.{IsBehind, EndsElement, Ends, EndsForm, EndsInner, EndsInners, EndsList, EndsLink, IsFormsRead, deep_end, IsTable}
 use Rattle.css_parser.proofs.PlaceLemmas.{skip_order, skip_within, stands_within}
-use Rattle.css_parser.proofs.Endings.{element_ends, piece_ends}
+use Rattle.css_parser.proofs.Endings.{element_ends, piece_ends, combinator_ends}
 
 pub not_empty : (b : Bool) (xs : List Form) → (IsTrue b ↔ (xs ≡ [])) → b ≡ false → xs ≢ []
 not_empty b xs both off e = let f : false ≡ true = sym off ∙ both.1 e in cc
@@ -66,13 +73,13 @@ module _ (ts : List CssToken) (f : Reader) (sound : IsSound ts f) where
   pub forms_read : (i : ℕ) (r : FormsRead) → i ≤ length ts → IsFormsRead ts f i r → forms_from f (length ts) i ≡ r
   forms_read i r low h = forms_are (length ts) i r.end r.forms low (omega arith) h.reads h.stops
 
-  some_ends : (i : ℕ) (r : FormsRead) → Reaches i r → (xs : List Form) → r.forms ≡ xs → EndsInner ts i (some_read xs (inner_read false None false r))
-  some_ends i r h [] e = tt
-  some_ends i r h (x ∷ xs) e = record { moves = h.moves (λ n. let z : x ∷ xs ≡ [] = sym e ∙ n in cc); within = h.within }
+  some_ends : (l : Link) (i : ℕ) (r : FormsRead) → Reaches i r → (xs : List Form) → r.forms ≡ xs → EndsInner ts i (some_read xs (inner_read l false None false r))
+  some_ends l i r h [] e = tt
+  some_ends l i r h (x ∷ xs) e = record { moves = h.moves (λ n. let z : x ∷ xs ≡ [] = sym e ∙ n in cc); within = h.within }
 
-  with_ends : (i : ℕ) → i ≤ length ts → (e : Option ElementRead) → EndsElement ts i e → EndsInner ts i (inner_with e (forms_from f (length ts)) i)
-  with_ends i low None h = let r = forms_from f (length ts) i in some_ends i r (forms_reach (length ts) i low) r.forms refl
-  with_ends i low (Some e) h =
+  with_ends : (l : Link) (i : ℕ) → i ≤ length ts → (e : Option ElementRead) → EndsElement ts i e → EndsInner ts i (inner_with l e (forms_from f (length ts)) i)
+  with_ends l i low None h = let r = forms_from f (length ts) i in some_ends l i r (forms_reach (length ts) i low) r.forms refl
+  with_ends l i low (Some e) h =
       let rest = forms_reach (length ts) e.end h.within in
       let first = h.moves in
       let order = rest.order in
@@ -84,32 +91,87 @@ some_moves ts f sound i r low h some =
     let reach : Reaches ts f sound i r = subst (Reaches ts f sound i) (forms_read ts f sound i r low h) (forms_reach ts f sound (length ts) i low) in
     record { moves = reach.moves some; within = reach.within }
 
+-- a place that is not before another
+pub record IsFrom (ts : List CssToken) (i j : ℕ) : Type 0 where
+  pub order : i ≤ j
+  pub within : j ≤ length ts
+
 -- compounds of a choice
 module _ (text : List ℕ) (ts : List CssToken) where
-  pub inner_ends : (f : Reader) → IsSound ts f → (i : ℕ) → i ≤ length ts → EndsInner ts i (inner_at text ts f i)
+  sign_if : (i : ℕ) (b : Bool) (x y : LinkRead) → (b ≡ true → IsFrom ts i x.end) → IsFrom ts i y.end → IsFrom ts i (cond b x y).end
+  sign_if i true x y h g = h refl
+  sign_if i false x y h g = g
+
+  pub sign_ends : (i : ℕ) → i ≤ length ts → IsFrom ts i (sign ts i).end
+  unfolding sign
+  sign_ends i low =
+      let one : (n : ℕ) → 0 < n → (code_at ts i == n) ≡ true → IsFrom ts i (skip ts (i + 1)) = λ n some h. (let l = stands_within ts i n some h in record { order = omega (arith, skip_order ts (i + 1)); within = skip_within ts (i + 1) (omega arith) }) in
+      sign_if i (stands kind.Greater ts i) _ _ (λ h. one 21 (omega arith) h)
+      (sign_if i (stands kind.Plus ts i) _ _ (λ h. one 20 (omega arith) h)
+      (sign_if i (stands kind.Tilde ts i) _ _ (λ h. one 22 (omega arith) h) (record { order = omega arith; within = low })))
+
+  pub inner_ends : (f : Reader) → IsSound ts f → (l : Link) (i : ℕ) → i ≤ length ts → EndsInner ts i (inner_at text ts f l i)
   unfolding inner_at
-  inner_ends f sound i low = with_ends ts f sound i low (element ts i) (element_ends text ts i)
+  inner_ends f sound l i low = with_ends ts f sound l i low (element ts i) (element_ends text ts i)
 
-  inners_if : (a : ℕ) (b : Bool) (x y : Option InnersRead) → (b ≡ true → EndsInners ts a x) → (b ≡ false → EndsInners ts a y) → EndsInners ts a (cond b x y)
-  inners_if a true x y h k = h refl
-  inners_if a false x y h k = k refl
+  lower_inner : (i k : ℕ) (o : Option InnerRead) → i ≤ k → EndsInner ts k o → EndsInner ts i o
+  lower_inner i k None le h = tt
+  lower_inner i k (Some r) le h = let l = h.moves in record { moves = omega arith; within = h.within }
 
-  front_ends : (a k : ℕ) (x : Inner) (o : Option InnersRead) → a ≤ k → EndsInners ts k o → EndsInners ts a (front x o)
+  pub further_ends : (f : Reader) → IsSound ts f → (i : ℕ) → i ≤ length ts → EndsInner ts i (further_at text ts f i)
+  further_ends f sound i low = by_link (combinator ts i) (combinator_ends text ts i low)
+    where
+      by_link : (o : Option LinkRead) → EndsLink ts i o → EndsInner ts i (further_with text ts f o)
+      by_link None h = tt
+      by_link (Some r) h = let l = h.moves in lower_inner i r.end _ (omega arith) (inner_ends f sound r.link r.end h.within)
+
+  parts_end : (f : Reader) → IsSound ts f → (m i : ℕ) → i ≤ length ts → IsFrom ts i (parts_from text ts f m i).end
+  parts_end f sound zero i low = record { order = omega arith; within = low }
+  parts_end f sound (suc m) i low = by_part (λ k l. parts_end f sound m k l) (further_at text ts f i) (further_ends f sound i low)
+    where
+      by_part : ((k : ℕ) → k ≤ length ts → IsFrom ts k (parts_from text ts f m k).end) → (o : Option InnerRead) → EndsInner ts i o → IsFrom ts i (parts_by i (parts_from text ts f m) o).end
+      by_part go None h = record { order = omega arith; within = low }
+      by_part go (Some r) h = let rest = go r.end h.within in let l = h.moves in let o = rest.order in record { order = omega arith; within = rest.within }
+
+  alone_ends : (i : ℕ) (o : Option InnerRead) → EndsInner ts i o → EndsInners ts i (alone o)
+  alone_ends i None h = tt
+  alone_ends i (Some r) h = h
+
+  joined_ends : (f : Reader) → IsSound ts f → (i k : ℕ) → i ≤ k → (o : Option InnerRead) → EndsInner ts k o → EndsInners ts i (joined (parts_from text ts f (length ts)) o)
+  joined_ends f sound i k le None h = tt
+  joined_ends f sound i k le (Some r) h =
+      let rest = parts_end f sound (length ts) r.end h.within in
+      let l = h.moves in
+      let o = rest.order in
+      record { moves = omega arith; within = rest.within }
+
+  pub member_ends : (f : Reader) → IsSound ts f → (w : Word) (i : ℕ) → i ≤ length ts → EndsInners ts i (member_at text ts f w i)
+  unfolding member_at
+  member_ends f sound word.Has i low = let s = sign_ends i low in joined_ends f sound i (sign ts i).end s.order _ (inner_ends f sound (sign ts i).link (sign ts i).end s.within)
+  member_ends f sound word.Is i low = alone_ends i _ (inner_ends f sound link.First i low)
+  member_ends f sound word.Where i low = alone_ends i _ (inner_ends f sound link.First i low)
+  member_ends f sound word.Not i low = alone_ends i _ (inner_ends f sound link.First i low)
+
+  list_if : (a : ℕ) (b : Bool) (x y : Option ListRead) → (b ≡ true → EndsList ts a x) → (b ≡ false → EndsList ts a y) → EndsList ts a (cond b x y)
+  list_if a true x y h k = h refl
+  list_if a false x y h k = k refl
+
+  front_ends : (a k : ℕ) (x : Member) (o : Option ListRead) → a ≤ k → EndsList ts k o → EndsList ts a (front x o)
   front_ends a k x None le h = tt
   front_ends a k x (Some r) le h = let l = h.moves in record { moves = omega arith; within = h.within }
 
-  pub inners_end : (f : Reader) → IsSound ts f → (m i : ℕ) → i ≤ length ts → EndsInners ts i (inners_from text ts f m i)
-  inners_end f sound zero i low = tt
-  inners_end f sound (suc m) i low =
-      by_inner (λ k l. inners_end f sound m k l) (inner_at text ts f (skip ts i)) (inner_ends f sound (skip ts i) (skip_within ts i low))
+  pub list_ends : (f : Reader) → IsSound ts f → (w : Word) (m i : ℕ) → i ≤ length ts → EndsList ts i (list_from text ts f w m i)
+  list_ends f sound w zero i low = tt
+  list_ends f sound w (suc m) i low =
+      by_member (λ k l. list_ends f sound w m k l) (member_at text ts f w (skip ts i)) (member_ends f sound w (skip ts i) (skip_within ts i low))
     where
-      by_inner : ((k : ℕ) → k ≤ length ts → EndsInners ts k (inners_from text ts f m k)) → (o : Option InnerRead) → EndsInner ts (skip ts i) o → EndsInners ts i (inners_by text ts (inners_from text ts f m) o)
-      by_inner go None h = tt
-      by_inner go (Some r) h =
+      by_member : ((k : ℕ) → k ≤ length ts → EndsList ts k (list_from text ts f w m k)) → (o : Option InnersRead) → EndsInners ts (skip ts i) o → EndsList ts i (list_by text ts (list_from text ts f w m) o)
+      by_member go None h = tt
+      by_member go (Some r) h =
           let j : ℕ = skip ts r.end in
           let first = h.moves in
-          inners_if i (stands kind.CloseRound ts j) _ _ (λ c. let l = stands_within ts j 18 (omega arith) c in record { moves = omega (arith, skip_order ts i, skip_order ts r.end); within = omega arith })
-          (λ _. inners_if i (stands kind.Comma ts j) _ _ (λ c. let l = stands_within ts j 19 (omega arith) c in front_ends i (j + 1) r.inner _ (omega (arith, skip_order ts i, skip_order ts r.end)) (go (j + 1) (omega arith))) (λ _. tt))
+          list_if i (stands kind.CloseRound ts j) _ _ (λ c. let l = stands_within ts j 18 (omega arith) c in record { moves = omega (arith, skip_order ts i, skip_order ts r.end); within = omega arith })
+          (λ _. list_if i (stands kind.Comma ts j) _ _ (λ c. let l = stands_within ts j 19 (omega arith) c in front_ends i (j + 1) (member_of r.inners) _ (omega (arith, skip_order ts i, skip_order ts r.end)) (go (j + 1) (omega arith))) (λ _. tt))
 
   one_ends : (i : ℕ) (o : Option Read) → Ends ts i o → EndsForm ts i (one_read o)
   one_ends i None h = tt
@@ -128,34 +190,35 @@ module _ (text : List ℕ) (ts : List CssToken) where
   unfolding word_at
   word_inside i w e = stands_within ts (i + 1) 2 (omega arith) (second (stands kind.Colon ts i) (stands kind.Function ts (i + 1)) (word_if (stands kind.Colon ts i && stands kind.Function ts (i + 1)) _ w e))
 
-  deep_read_ends : (i : ℕ) (o : Option InnersRead) → EndsInners ts (i + 2) o → EndsForm ts i (deep_read o)
+  deep_read_ends : (i : ℕ) (o : Option ListRead) → EndsList ts (i + 2) o → EndsForm ts i (deep_read o)
   deep_read_ends i None h = tt
   deep_read_ends i (Some r) h = let l = h.moves in record { moves = omega arith; within = h.within }
 
-  choice_read_ends : (i : ℕ) (w : Word) (o : Option InnersRead) → EndsInners ts (i + 2) o → EndsForm ts i (choice_read w o)
+  choice_read_ends : (i : ℕ) (w : Word) (o : Option ListRead) → EndsList ts (i + 2) o → EndsForm ts i (choice_read w o)
   choice_read_ends i w None h = tt
   choice_read_ends i w (Some r) h = let l = h.moves in record { moves = omega arith; within = h.within }
 
-  deep_with_ends : (i : ℕ) (o : Option InnersRead) → (i + 1 < length ts → EndsInners ts (i + 2) o) → (w : Option Word) → word_at ts i ≡ w → EndsForm ts i (deep_with text ts w (one_read (piece_at text ts i)) o)
-  deep_with_ends i o h None e = one_ends i (piece_at text ts i) (piece_ends text ts i)
-  deep_with_ends i o h (Some w) e = deep_read_ends i o (h (word_inside i w e))
+  choice_with_ends : (i : ℕ) (choice : Word → Option FormRead) → ((w : Word) → i + 1 < length ts → EndsForm ts i (choice w)) → (w : Option Word) → word_at ts i ≡ w → EndsForm ts i (choice_with text ts w (one_read (piece_at text ts i)) choice)
+  choice_with_ends i choice h None e = one_ends i (piece_at text ts i) (piece_ends text ts i)
+  choice_with_ends i choice h (Some w) e = h w (word_inside i w e)
 
   pub deep_ends : (n : ℕ) → IsSound ts (deep_by text ts n)
   unfolding deep_by
-  deep_ends zero i low = deep_with_ends i None (λ _. tt) (word_at ts i) refl
-  deep_ends (suc n) i low = deep_with_ends i _ (λ l. inners_end (deep_by text ts n) (deep_ends n) (length ts) (i + 2) (omega arith)) (word_at ts i) refl
+  deep_ends zero i low = choice_with_ends i _ (λ w l. tt) (word_at ts i) refl
+  deep_ends (suc n) i low = choice_with_ends i _ (λ w l. deep_read_ends i _ (list_ends (deep_by text ts n) (deep_ends n) w (length ts) (i + 2) (omega arith))) (word_at ts i) refl
 
-  simple_with_ends : (i : ℕ) (o : Option InnersRead) → (i + 1 < length ts → EndsInners ts (i + 2) o) → (w : Option Word) → word_at ts i ≡ w → EndsForm ts i (simple_with text ts w (one_read (piece_at text ts i)) o)
-  simple_with_ends i o h None e = one_ends i (piece_at text ts i) (piece_ends text ts i)
-  simple_with_ends i o h (Some w) e = choice_read_ends i w o (h (word_inside i w e))
+  form_if : (i : ℕ) (b : Bool) (x y : Option FormRead) → EndsForm ts i x → EndsForm ts i y → EndsForm ts i (cond b x y)
+  form_if i true x y h g = h
+  form_if i false x y h g = g
 
-  pub by_ends : (n : ℕ) → IsSound ts (simple_by text ts n)
+  pub by_ends : (n : ℕ) (within : Bool) → IsSound ts (simple_by text ts n within)
   unfolding simple_by
-  by_ends zero i low = deep_ends (length ts) i low
-  by_ends (suc n) i low = simple_with_ends i _ (λ l. inners_end (simple_by text ts n) (by_ends n) (length ts) (i + 2) (omega arith)) (word_at ts i) refl
+  by_ends zero within i low = deep_ends (length ts) i low
+  by_ends (suc n) within i low =
+      choice_with_ends i _ (λ w l. form_if i (is_has w && within) _ _ (deep_ends (length ts) i low) (choice_read_ends i w _ (list_ends (simple_by text ts n (within || is_has w)) (by_ends n (within || is_has w)) w (length ts) (i + 2) (omega arith)))) (word_at ts i) refl
 
   pub simple_ends : (i : ℕ) → i ≤ length ts → EndsForm ts i (simple text ts i)
-  simple_ends i low = by_ends 8 i low
+  simple_ends i low = by_ends 8 false i low
 
   -- readers that agree from a place on read the same from there on
   module _ (f g : Reader) (from : ℕ) (sound : IsSound ts f) (same : (k : ℕ) → from ≤ k → k ≤ length ts → f k ≡ g k) where
@@ -170,202 +233,137 @@ module _ (text : List ℕ) (ts : List CssToken) where
             read_of : List Form → ℕ → FormsRead
             read_of ys n = record { forms = ys; end = n }
 
-    with_agree : (i : ℕ) → from ≤ i → i ≤ length ts → (e : Option ElementRead) → EndsElement ts i e → inner_with e (forms_from f (length ts)) i ≡ inner_with e (forms_from g (length ts)) i
-    with_agree i le low None h = ap (λ r. some_read r.forms (inner_read false None false r)) (forms_agree (length ts) i le low)
-    with_agree i le low (Some e) h = let l = h.moves in ap (λ r. Some (inner_read true e.name e.prefixed r)) (forms_agree (length ts) e.end (omega arith) h.within)
+    with_agree : (l : Link) (i : ℕ) → from ≤ i → i ≤ length ts → (e : Option ElementRead) → EndsElement ts i e → inner_with l e (forms_from f (length ts)) i ≡ inner_with l e (forms_from g (length ts)) i
+    with_agree l i le low None h = ap (λ r. some_read r.forms (inner_read l false None false r)) (forms_agree (length ts) i le low)
+    with_agree l i le low (Some e) h = let m = h.moves in ap (λ r. Some (inner_read l true e.name e.prefixed r)) (forms_agree (length ts) e.end (omega arith) h.within)
 
-    inner_agree : (i : ℕ) → from ≤ i → i ≤ length ts → inner_at text ts f i ≡ inner_at text ts g i
+    inner_agree : (l : Link) (i : ℕ) → from ≤ i → i ≤ length ts → inner_at text ts f l i ≡ inner_at text ts g l i
     unfolding inner_at
-    inner_agree i le low = with_agree i le low (element ts i) (element_ends text ts i)
+    inner_agree l i le low = with_agree l i le low (element ts i) (element_ends text ts i)
 
-    cond_same : (b : Bool) (x y z : Option InnersRead) → (b ≡ true → x ≡ y) → cond b x z ≡ cond b y z
+    further_agree : (i : ℕ) → from ≤ i → i ≤ length ts → further_at text ts f i ≡ further_at text ts g i
+    further_agree i le low = by_link (combinator ts i) (combinator_ends text ts i low)
+      where
+        by_link : (o : Option LinkRead) → EndsLink ts i o → further_with text ts f o ≡ further_with text ts g o
+        by_link None h = refl
+        by_link (Some r) h = let l = h.moves in inner_agree r.link r.end (omega arith) h.within
+
+    rest_of : Inner → InnersRead → InnersRead
+    rest_of x r = record { inners = x ∷ r.inners; end = r.end }
+
+    parts_agree : (m i : ℕ) → from ≤ i → i ≤ length ts → parts_from text ts f m i ≡ parts_from text ts g m i
+    unfolding rest_of
+    parts_agree zero i le low = refl
+    parts_agree (suc m) i le low = by_part (λ k h l. parts_agree m k h l) (further_at text ts f i) (further_ends f sound i low) ∙ ap (parts_by i (parts_from text ts g m)) (further_agree i le low)
+      where
+        by_part : ((k : ℕ) → from ≤ k → k ≤ length ts → parts_from text ts f m k ≡ parts_from text ts g m k) → (o : Option InnerRead) → EndsInner ts i o → parts_by i (parts_from text ts f m) o ≡ parts_by i (parts_from text ts g m) o
+        by_part go None h = refl
+        by_part go (Some r) h = let l = h.moves in ap (rest_of r.inner) (go r.end (omega arith) h.within)
+
+    joined_agree : (k : ℕ) → from ≤ k → (o : Option InnerRead) → EndsInner ts k o → joined (parts_from text ts f (length ts)) o ≡ joined (parts_from text ts g (length ts)) o
+    unfolding rest_of
+    joined_agree k le None h = refl
+    joined_agree k le (Some r) h = let l = h.moves in ap (λ x. Some (rest_of r.inner x)) (parts_agree (length ts) r.end (omega arith) h.within)
+
+    member_agree : (w : Word) (i : ℕ) → from ≤ i → i ≤ length ts → member_at text ts f w i ≡ member_at text ts g w i
+    unfolding member_at
+    member_agree word.Has i le low =
+        let s = sign_ends i low in
+        let o = s.order in
+        joined_agree (sign ts i).end (omega arith) _ (inner_ends f sound (sign ts i).link (sign ts i).end s.within)
+        ∙ ap (joined (parts_from text ts g (length ts))) (inner_agree (sign ts i).link (sign ts i).end (omega arith) s.within)
+    member_agree word.Is i le low = ap alone (inner_agree link.First i le low)
+    member_agree word.Where i le low = ap alone (inner_agree link.First i le low)
+    member_agree word.Not i le low = ap alone (inner_agree link.First i le low)
+
+    cond_same : (b : Bool) (x y z : Option ListRead) → (b ≡ true → x ≡ y) → cond b x z ≡ cond b y z
     cond_same true x y z h = h refl
     cond_same false x y z h = refl
 
-    pub inners_agree : (m i : ℕ) → from ≤ i → i ≤ length ts → inners_from text ts f m i ≡ inners_from text ts g m i
-    inners_agree zero i le low = refl
-    inners_agree (suc m) i le low =
-        by_inner (λ k h l. inners_agree m k h l) (inner_at text ts f (skip ts i)) (inner_ends f sound (skip ts i) (skip_within ts i low))
-        ∙ ap (inners_by text ts (inners_from text ts g m)) (inner_agree (skip ts i) (omega (arith, skip_order ts i)) (skip_within ts i low))
+    pub list_agree : (w : Word) (m i : ℕ) → from ≤ i → i ≤ length ts → list_from text ts f w m i ≡ list_from text ts g w m i
+    list_agree w zero i le low = refl
+    list_agree w (suc m) i le low =
+        by_member (λ k h l. list_agree w m k h l) (member_at text ts f w (skip ts i)) (member_ends f sound w (skip ts i) (skip_within ts i low))
+        ∙ ap (list_by text ts (list_from text ts g w m)) (member_agree w (skip ts i) (omega (arith, skip_order ts i)) (skip_within ts i low))
       where
-        by_inner : ((k : ℕ) → from ≤ k → k ≤ length ts → inners_from text ts f m k ≡ inners_from text ts g m k) → (o : Option InnerRead) → EndsInner ts (skip ts i) o → inners_by text ts (inners_from text ts f m) o ≡ inners_by text ts (inners_from text ts g m) o
-        by_inner go None h = refl
-        by_inner go (Some r) h =
+        by_member : ((k : ℕ) → from ≤ k → k ≤ length ts → list_from text ts f w m k ≡ list_from text ts g w m k) → (o : Option InnersRead) → EndsInners ts (skip ts i) o → list_by text ts (list_from text ts f w m) o ≡ list_by text ts (list_from text ts g w m) o
+        by_member go None h = refl
+        by_member go (Some r) h =
             let j : ℕ = skip ts r.end in
             let l = h.moves in
-            ap (cond (stands kind.CloseRound ts j) (Some (record { inners = r.inner ∷ []; end = j + 1 })))
-            (cond_same (stands kind.Comma ts j) _ _ None (λ c. let w = stands_within ts j 19 (omega arith) c in ap (front r.inner) (go (j + 1) (omega (arith, skip_order ts i, skip_order ts r.end)) (omega arith))))
+            ap (cond (stands kind.CloseRound ts j) (Some (record { list = member_of r.inners ∷ []; end = j + 1 })))
+            (cond_same (stands kind.Comma ts j) _ _ None (λ c. let w = stands_within ts j 19 (omega arith) c in ap (front (member_of r.inners)) (go (j + 1) (omega (arith, skip_order ts i, skip_order ts r.end)) (omega arith))))
 
   -- as many levels as tokens behind a place are enough there
   deep_steady : (n i : ℕ) → i ≤ length ts → length ts ≤ n + i → deep_by text ts n i ≡ deep_by text ts (suc n) i
   unfolding deep_by
   deep_steady zero i low near = by_word (word_at ts i) refl
     where
-      by_word : (w : Option Word) → word_at ts i ≡ w → deep_with text ts w (one_read (piece_at text ts i)) None ≡ deep_with text ts w (one_read (piece_at text ts i)) (inners text ts (deep_by text ts zero) (i + 2))
+      by_word : (w : Option Word) → word_at ts i ≡ w → choice_with text ts w (one_read (piece_at text ts i)) (λ v. None) ≡ choice_with text ts w (one_read (piece_at text ts i)) (λ v. deep_read (members text ts (deep_by text ts zero) v (i + 2)))
       by_word None e = refl
       by_word (Some w) e = let l = word_inside i w e in absurd (omega arith)
   deep_steady (suc n) i low near = by_word (λ k l h. deep_steady n k l h) (word_at ts i) refl
     where
       by_word : ((k : ℕ) → k ≤ length ts → length ts ≤ n + k → deep_by text ts n k ≡ deep_by text ts (suc n) k) → (w : Option Word) → word_at ts i ≡ w
-          → deep_with text ts w (one_read (piece_at text ts i)) (inners text ts (deep_by text ts n) (i + 2)) ≡ deep_with text ts w (one_read (piece_at text ts i)) (inners text ts (deep_by text ts (suc n)) (i + 2))
+          → choice_with text ts w (one_read (piece_at text ts i)) (λ v. deep_read (members text ts (deep_by text ts n) v (i + 2))) ≡ choice_with text ts w (one_read (piece_at text ts i)) (λ v. deep_read (members text ts (deep_by text ts (suc n)) v (i + 2)))
       by_word go None e = refl
       by_word go (Some w) e =
           let l = word_inside i w e in
-          ap deep_read (inners_agree (deep_by text ts n) (deep_by text ts (suc n)) (i + 1) (deep_ends n) (λ k le low. go k low (omega arith)) (length ts) (i + 2) (omega arith) (omega arith))
+          ap deep_read (list_agree (deep_by text ts n) (deep_by text ts (suc n)) (i + 1) (deep_ends n) (λ k le low. go k low (omega arith)) w (length ts) (i + 2) (omega arith) (omega arith))
 
   -- what is read of a choice at any depth
-  pub deep_is : (i : ℕ) (w : Word) → i ≤ length ts → word_at ts i ≡ Some w → deep text ts i ≡ deep_read (inners text ts (deep text ts) (i + 2))
+  pub deep_is : (i : ℕ) (w : Word) → i ≤ length ts → word_at ts i ≡ Some w → deep text ts i ≡ deep_read (members text ts (deep text ts) w (i + 2))
   unfolding deep_by
   deep_is i w low e =
       let l = word_inside i w e in
-      deep_steady (length ts) i low (omega arith) ∙ ap (λ o. deep_with text ts o (one_read (piece_at text ts i)) (inners text ts (deep text ts) (i + 2))) e
+      deep_steady (length ts) i low (omega arith) ∙ ap (λ o. choice_with text ts o (one_read (piece_at text ts i)) (λ v. deep_read (members text ts (deep text ts) v (i + 2)))) e
 
   pub deep_piece : (n i : ℕ) → word_at ts i ≡ None → deep_by text ts n i ≡ one_read (piece_at text ts i)
   unfolding deep_by
-  deep_piece zero i e = ap (λ o. deep_with text ts o (one_read (piece_at text ts i)) None) e
-  deep_piece (suc n) i e = ap (λ o. deep_with text ts o (one_read (piece_at text ts i)) (inners text ts (deep_by text ts n) (i + 2))) e
+  deep_piece zero i e = ap (λ o. choice_with text ts o (one_read (piece_at text ts i)) (λ v. None)) e
+  deep_piece (suc n) i e = ap (λ o. choice_with text ts o (one_read (piece_at text ts i)) (λ v. deep_read (members text ts (deep_by text ts n) v (i + 2)))) e
 
-  -- the three ways of `simple`
-  pub at_piece : (n i : ℕ) → word_at ts i ≡ None → simple_by text ts n i ≡ one_read (piece_at text ts i)
+  -- the ways of `simple`
+  abbrev pub kept : ℕ → Bool → ℕ → Word → Option FormRead
+  kept n within i w = cond (is_has w && within) (deep text ts i) (choice_read w (members text ts (simple_by text ts n (within || is_has w)) w (i + 2)))
+
+  pub at_piece : (n : ℕ) (within : Bool) (i : ℕ) → word_at ts i ≡ None → simple_by text ts n within i ≡ one_read (piece_at text ts i)
   unfolding simple_by
-  at_piece zero i e = deep_piece (length ts) i e
-  at_piece (suc n) i e = ap (λ o. simple_with text ts o (one_read (piece_at text ts i)) (inners text ts (simple_by text ts n) (i + 2))) e
+  at_piece zero within i e = deep_piece (length ts) i e
+  at_piece (suc n) within i e = ap (λ o. choice_with text ts o (one_read (piece_at text ts i)) (kept n within i)) e
 
-  pub at_choice : (n i : ℕ) (w : Word) → word_at ts i ≡ Some w → (n == 0) ≡ false → simple_by text ts n i ≡ choice_read w (inners text ts (simple_by text ts (n - 1)) (i + 2))
+  pub kept_at : (n : ℕ) (within : Bool) (i : ℕ) (w : Word) → word_at ts i ≡ Some w → simple_by text ts (suc n) within i ≡ kept n within i w
   unfolding simple_by
-  at_choice zero i w e h = let f : (zero == 0) ≡ true = grind (arith, nat_tests) in let z : true ≡ false = sym f ∙ h in cc
-  at_choice (suc n) i w e h =
-      ap (λ o. simple_with text ts o (one_read (piece_at text ts i)) (inners text ts (simple_by text ts n) (i + 2))) e
-      ∙ ap (λ m. choice_read w (inners text ts (simple_by text ts m) (i + 2))) (let f : n ≡ suc n - 1 = omega arith in f)
+  kept_at n within i w e = ap (λ o. choice_with text ts o (one_read (piece_at text ts i)) (kept n within i)) e
 
-  pub at_deep : (n i : ℕ) (w : Word) (ends : List (Option ℕ)) → word_at ts i ≡ Some w → (n == 0) ≡ true → i ≤ length ts → IsTable text ts ends → length ts ≤ i + length ends
-      → deep_end (get_or ends (length ts - 1 - i) None) ≡ simple_by text ts n i
+  not_zero : {A : Type 0} → (zero == 0) ≡ false → A
+  not_zero h = let f : (zero == 0) ≡ true = grind (arith, nat_tests) in let z : true ≡ false = sym f ∙ h in cc
+
+  less : (n : ℕ) → n ≡ suc n - 1
+  less n = omega arith
+
+  pub at_choice : (n : ℕ) (within : Bool) (i : ℕ) (w : Word) → word_at ts i ≡ Some w → (n == 0) ≡ false → (is_has w && within) ≡ false
+      → simple_by text ts n within i ≡ choice_read w (members text ts (simple_by text ts (n - 1) (within || is_has w)) w (i + 2))
+  at_choice zero within i w e h k = not_zero h
+  at_choice (suc n) within i w e h k =
+      kept_at n within i w e ∙ ap (λ b. cond b (deep text ts i) (choice_read w (members text ts (simple_by text ts n (within || is_has w)) w (i + 2)))) k
+      ∙ ap (λ m. choice_read w (members text ts (simple_by text ts m (within || is_has w)) w (i + 2))) (less n)
+
+  entry_is : (i : ℕ) (w : Word) (ends : List (Option ℕ)) → word_at ts i ≡ Some w → IsTable text ts ends → length ts ≤ i + length ends → deep_end (get_or ends (length ts - 1 - i) None) ≡ deep text ts i
+  entry_is i w ends e table known = table i (let l = word_inside i w e in omega arith) known w e
+
+  pub at_deep : (n : ℕ) (within : Bool) (i : ℕ) (w : Word) (ends : List (Option ℕ)) → word_at ts i ≡ Some w → (n == 0) ≡ true → IsTable text ts ends → length ts ≤ i + length ends
+      → deep_end (get_or ends (length ts - 1 - i) None) ≡ simple_by text ts n within i
   unfolding simple_by
-  at_deep zero i w ends e h low table known = table i (let l = word_inside i w e in omega arith) known w e
-  at_deep (suc n) i w ends e h low table known = let f : (suc n == 0) ≡ false = grind (arith, nat_tests) in let z : true ≡ false = sym h ∙ f in cc
+  at_deep zero within i w ends e h table known = entry_is i w ends e table known
+  at_deep (suc n) within i w ends e h table known = let f : (suc n == 0) ≡ false = grind (arith, nat_tests) in let z : true ≡ false = sym h ∙ f in cc
 
-  pub deep_entry_ends : (i : ℕ) (w : Word) (ends : List (Option ℕ)) → word_at ts i ≡ Some w → i ≤ length ts → IsTable text ts ends → length ts ≤ i + length ends
+  pub at_has : (n : ℕ) (within : Bool) (i : ℕ) (w : Word) (ends : List (Option ℕ)) → word_at ts i ≡ Some w → (n == 0) ≡ false → (is_has w && within) ≡ true → IsTable text ts ends → length ts ≤ i + length ends
+      → deep_end (get_or ends (length ts - 1 - i) None) ≡ simple_by text ts n within i
+  at_has zero within i w ends e h k table known = not_zero h
+  at_has (suc n) within i w ends e h k table known =
+      entry_is i w ends e table known ∙ sym (kept_at n within i w e ∙ ap (λ b. cond b (deep text ts i) (choice_read w (members text ts (simple_by text ts n (within || is_has w)) w (i + 2)))) k)
+
+  pub deep_entry_ends : (i : ℕ) (w : Word) (ends : List (Option ℕ)) → word_at ts i ≡ Some w → IsTable text ts ends → length ts ≤ i + length ends
       → EndsForm ts i (deep_end (get_or ends (length ts - 1 - i) None))
-  deep_entry_ends i w ends e low table known = subst (EndsForm ts i) (sym (table i (let l = word_inside i w e in omega arith) known w e)) (deep_ends (length ts) i low)
-
-  pub inner_moves : (n i : ℕ) (r : FormsRead) → i ≤ length ts → IsFormsRead ts (simple_by text ts n) i r → r.forms ≢ [] → EndsInner ts i (Some (inner_read false None false r))
-  inner_moves n i r low h some = some_moves ts (simple_by text ts n) (by_ends n) i r low h some
-
-  -- what the code keeps of a compound and of the compounds of a choice
-  pub inner_named : (n i : ℕ) (e : ElementRead) (r : FormsRead) → element ts i ≡ Some e → e.end ≤ length ts → IsFormsRead ts (simple_by text ts n) e.end r → inner_at text ts (simple_by text ts n) i ≡ Some (inner_read true e.name e.prefixed r)
-  unfolding inner_at
-  inner_named n i e r is low h =
-      ap (λ o. inner_with o (forms_from (simple_by text ts n) (length ts)) i) is
-      ∙ ap (λ x. Some (inner_read true e.name e.prefixed x)) (forms_read ts (simple_by text ts n) (by_ends n) e.end r low h)
-
-  inner_alone : (n i : ℕ) (r : FormsRead) → element ts i ≡ None → i ≤ length ts → IsFormsRead ts (simple_by text ts n) i r → inner_at text ts (simple_by text ts n) i ≡ some_read r.forms (inner_read false None false r)
-  unfolding inner_at
-  inner_alone n i r is low h =
-      ap (λ o. inner_with o (forms_from (simple_by text ts n) (length ts)) i) is
-      ∙ ap (λ x. some_read x.forms (inner_read false None false x)) (forms_read ts (simple_by text ts n) (by_ends n) i r low h)
-
-  pub no_inner : (n i : ℕ) (r : FormsRead) → element ts i ≡ None → i ≤ length ts → IsFormsRead ts (simple_by text ts n) i r → r.forms ≡ [] → inner_at text ts (simple_by text ts n) i ≡ None
-  no_inner n i r is low h none = inner_alone n i r is low h ∙ ap (λ xs. some_read xs (inner_read false None false r)) none
-
-  some_forms : (xs : List Form) (r : InnerRead) → xs ≢ [] → some_read xs r ≡ Some r
-  some_forms [] r h = absurd (h refl)
-  some_forms (x ∷ xs) r h = refl
-
-  pub inner_forms : (n i : ℕ) (r : FormsRead) → element ts i ≡ None → i ≤ length ts → IsFormsRead ts (simple_by text ts n) i r → r.forms ≢ [] → inner_at text ts (simple_by text ts n) i ≡ Some (inner_read false None false r)
-  inner_forms n i r is low h some = inner_alone n i r is low h ∙ some_forms r.forms _ some
-
-abbrev pub before : List Inner → Option InnersRead → Option InnersRead
-before xs None = None
-before xs (Some r) = Some (record { inners = xs ++ r.inners; end = r.end })
-
-before_front : (xs : List Inner) (x : Inner) (o : Option InnersRead) → before xs (front x o) ≡ before (xs ++ x ∷ []) o
-before_front xs x None = refl
-before_front xs x (Some r) = ap (λ ys. Some (inners_of ys r.end)) (sym (append_assoc xs (x ∷ []) r.inners))
-  where
-    inners_of : List Inner → ℕ → InnersRead
-    inners_of ys n = record { inners = ys; end = n }
-
-before_none : (o : Option InnersRead) → o ≡ before [] o
-before_none None = refl
-before_none (Some r) = refl
-
--- the compounds from a place on are these, and then what is read from i on
-pub record IsInnersUpTo (text : List ℕ) (ts : List CssToken) (f : Reader) (from : ℕ) (done : List Inner) (i : ℕ) : Type 0 where
-  pub more : ℕ
-  pub enough : length ts ≤ more + i
-  pub same : inners text ts f from ≡ before done (inners_from text ts f more i)
-
-module _ (text : List ℕ) (ts : List CssToken) (f : Reader) (from : ℕ) where
-  pub inners_begun : IsInnersUpTo text ts f from [] from
-  inners_begun = record { more = length ts; enough = omega arith; same = before_none (inners text ts f from) }
-
-  none_from : (m i : ℕ) → inner_at text ts f (skip ts i) ≡ None → inners_from text ts f m i ≡ None
-  none_from zero i e = refl
-  none_from (suc m) i e = ap (inners_by text ts (inners_from text ts f m)) e
-
-  pub inners_none : (done : List Inner) (i : ℕ) → IsInnersUpTo text ts f from done i → inner_at text ts f (skip ts i) ≡ None → inners text ts f from ≡ None
-  inners_none done i h e = h.same ∙ ap (before done) (none_from h.more i e)
-
-  -- one compound more
-  step : (m i : ℕ) (r : InnerRead) → length ts ≤ m + i → i < length ts → inner_at text ts f (skip ts i) ≡ Some r
-      → (k : ℕ) × (m ≡ k + 1) × (inners_from text ts f m i ≡ inners_by text ts (inners_from text ts f k) (Some r))
-  step zero i r near l e = absurd (omega arith)
-  step (suc k) i r near l e = (k, omega arith, ap (inners_by text ts (inners_from text ts f k)) e)
-
-  pub inners_last : (done : List Inner) (i : ℕ) (r : InnerRead) → IsInnersUpTo text ts f from done i → i < length ts → inner_at text ts f (skip ts i) ≡ Some r → stands kind.CloseRound ts (skip ts r.end) ≡ true
-      → inners text ts f from ≡ Some (record { inners = done ++ r.inner ∷ []; end = skip ts r.end + 1 })
-  inners_last done i r h l e c =
-      let s = step h.more i r h.enough l e in
-      h.same ∙ ap (before done) (s.2 ∙ ap (λ b. cond b (Some (record { inners = r.inner ∷ []; end = skip ts r.end + 1 })) (cond (stands kind.Comma ts (skip ts r.end)) (front r.inner (inners_from text ts f s.0 (skip ts r.end + 1))) None)) c)
-
-  not_close : (n : ℕ) → (n == 19) ≡ true → (n == 18) ≡ false
-  not_close n e = grind (arith, nat_tests)
-
-  by_tests : (k : ℕ) (r : InnerRead) (b c : Bool) → Option InnersRead
-  by_tests k r b c = cond b (Some (record { inners = r.inner ∷ []; end = skip ts r.end + 1 })) (cond c (front r.inner (inners_from text ts f k (skip ts r.end + 1))) None)
-
-  pub inners_strange : (done : List Inner) (i : ℕ) (r : InnerRead) → IsInnersUpTo text ts f from done i → i < length ts → inner_at text ts f (skip ts i) ≡ Some r → stands kind.CloseRound ts (skip ts r.end) ≡ false → stands kind.Comma ts (skip ts r.end) ≡ false
-      → inners text ts f from ≡ None
-  unfolding by_tests
-  inners_strange done i r h l e c d =
-      let s = step h.more i r h.enough l e in
-      h.same ∙ ap (before done) (s.2 ∙ ap (λ b. by_tests s.0 r b (stands kind.Comma ts (skip ts r.end))) c ∙ ap (by_tests s.0 r false) d)
-
-  pub inners_more : (done : List Inner) (i : ℕ) (r : InnerRead) → IsInnersUpTo text ts f from done i → i < length ts → i < r.end → inner_at text ts f (skip ts i) ≡ Some r → stands kind.Comma ts (skip ts r.end) ≡ true
-      → IsInnersUpTo text ts f from (done ++ r.inner ∷ []) (skip ts r.end + 1)
-  unfolding by_tests
-  inners_more done i r h l moves e d =
-      let s = step h.more i r h.enough l e in
-      let near = h.enough in
-      let few = s.1 in
-      record {
-        more = s.0;
-        enough = omega (arith, skip_order ts r.end);
-        same = h.same
-            ∙ ap (before done) (s.2 ∙ ap (λ b. by_tests s.0 r b (stands kind.Comma ts (skip ts r.end))) (not_close (code_at ts (skip ts r.end)) d) ∙ ap (by_tests s.0 r false) d)
-            ∙ before_front done r.inner (inners_from text ts f s.0 (skip ts r.end + 1));
-      }
-
-  -- the same in the words of the loop
-  inside : (i start : ℕ) (o : Option InnerRead) (r : InnerRead) → i ≤ length ts → start ≡ skip ts i → EndsInner ts start o → o ≡ Some r → i < length ts
-  inside i start o r low s ends e =
-      let b : IsBehind ts start r.end = subst (EndsInner ts start) e ends in
-      let m = b.moves in
-      let w = b.within in
-      omega (arith, skip_order ts i)
-
-  pub inners_closed : (done : List Inner) (i : ℕ) (r : InnerRead) (start : ℕ) (o : Option InnerRead) (behind : ℕ) (pushed : List Inner)
-      → IsInnersUpTo text ts f from done i → i ≤ length ts → start ≡ skip ts i → o ≡ inner_at text ts f start → EndsInner ts start o → o ≡ Some r → behind ≡ skip ts r.end
-      → stands kind.CloseRound ts behind ≡ true → pushed ≡ done ++ r.inner ∷ [] → Some (record { inners = pushed; end = behind + 1 }) ≡ inners text ts f from
-  inners_closed done i r start o behind pushed h low s at ends e d c p =
-      ap (λ xs. read_of xs (behind + 1)) p ∙ ap (λ n. read_of (done ++ r.inner ∷ []) (n + 1)) d
-      ∙ sym (inners_last done i r h (inside i start o r low s ends e) (ap (inner_at text ts f) (sym s) ∙ sym at ∙ e) (ap (stands kind.CloseRound ts) (sym d) ∙ c))
-    where
-      read_of : List Inner → ℕ → Option InnersRead
-      read_of xs n = Some (record { inners = xs; end = n })
-
-  pub inners_cut : (done : List Inner) (i : ℕ) (r : InnerRead) (start : ℕ) (o : Option InnerRead) (behind : ℕ)
-      → IsInnersUpTo text ts f from done i → i ≤ length ts → start ≡ skip ts i → o ≡ inner_at text ts f start → EndsInner ts start o → o ≡ Some r → behind ≡ skip ts r.end
-      → stands kind.CloseRound ts behind ≡ false → stands kind.Comma ts behind ≡ false → None ≡ inners text ts f from
-  inners_cut done i r start o behind h low s at ends e d c g =
-      sym (inners_strange done i r h (inside i start o r low s ends e) (ap (inner_at text ts f) (sym s) ∙ sym at ∙ e) (ap (stands kind.CloseRound ts) (sym d) ∙ c) (ap (stands kind.Comma ts) (sym d) ∙ g))
+  deep_entry_ends i w ends e table known = let l = word_inside i w e in subst (EndsForm ts i) (sym (entry_is i w ends e table known)) (deep_ends (length ts) i (omega arith))

@@ -15,7 +15,7 @@ use Rattle.css_parser.specs.declared.pieces.LinkRead.{LinkRead}
 use Rattle.css_parser.specs.Places.{code_at, stands, skip, is_name, is_word, is_space, text_at}
 use Rattle.css_parser.specs.Names.{nth_called}
 use Rattle.css_parser.specs.Simples as spec
-use Rattle.css_parser.specs.Grammar.{combinator}
+use Rattle.css_parser.specs.Links.{combinator}
 use Rattle.css_parser.specs.Reading.{IsBehind, EndsElement, Ends, EndsLink}
 use Rattle.css_parser.proofs.PlaceLemmas.{code_within, skip_order}
 

@@ -22,7 +22,8 @@ use Rattle.css_parser.specs.declared.pieces.LinkRead.{LinkRead}
 use Rattle.css_parser.specs.Places.{stands, skip}
 use Rattle.css_parser.specs.Simples.{element}
 use Rattle.css_parser.specs.Choices.{simple}
-use Rattle.css_parser.specs.Grammar.{IsSelector, Reads, combinator}
+use Rattle.css_parser.specs.Grammar.{IsSelector, Reads}
+use Rattle.css_parser.specs.Links.{combinator}
 use Rattle.css_parser.specs.Reading.{EndsElement, EndsForm, EndsLink, IsFormsRead, IsCompoundRead, IsFurtherRead, IsWholeSelector, IsSelectorRead, IsReadUpTo}
 use Rattle.css_parser.specs.Lists.{list_of}
 use Rattle.css_parser.specs.Refusals.{refusal}

@@ -18,7 +18,8 @@ use Rattle.css_parser.specs.declared.pieces.LinkRead.{LinkRead}
 use Rattle.css_parser.specs.Places.{code_at, stands, skip, is_name}
 use Rattle.css_parser.specs.Simples.{past_prefix, name_at, element, piece_at}
 use Rattle.css_parser.specs.Choices.{simple, form_read, simple_by, word_at}
-use Rattle.css_parser.specs.Grammar.{Simples, HasElement, past_element, IsCompound, linked, combinator, Further, IsSelector}
+use Rattle.css_parser.specs.Grammar.{Simples, HasElement, past_element, IsCompound, Further, IsSelector}
+use Rattle.css_parser.specs.Links.{linked, combinator}
 use Rattle.css_parser.specs.Reading.{NoCompound, NoFurther, IsEnd, IsFormsRead, IsWholeCompound, IsLinked}
 use Rattle.css_parser.proofs.PlaceLemmas.{skip_stop, code_end}
 

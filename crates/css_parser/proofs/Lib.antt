@@ -7,7 +7,10 @@ pub mod Endings
 pub mod Existence
 pub mod Fitting
 pub mod GrammarLemmas
+pub mod LinkLemmas
 pub mod ListLemmas
+pub mod MemberFits
+pub mod MemberLemmas
 pub mod NthLemmas
 pub mod PlaceLemmas
 pub mod RefusalLemmas

@@ -1,20 +1,22 @@
 -- The first refusal, from left to right.
 use Rattle.std.proofs.Common.{true, map, ◌≡◌, ℕ, suc, ◌+◌, ◌-◌, ◌<◌, ◌≤◌, Bool, false, ◌&&◌, List, [], ◌∷◌, length, drop, get_or, refl, sym, ◌∙◌, ap, arith, length-drop}
-use Rattle.std.specs.Prelude.{◌==◌, Option, Some, None}
+use Rattle.std.specs.Prelude.{◌==◌, ◌||◌, Option, Some, None}
 use Rattle.std.proofs.Math.Seq.{drop-cons}
 use Rattle.std.proofs.lemmas.List.{drop_all}
 use Rattle.std.proofs.lemmas.Bool.Decides.{nat_tests}
 use Rattle.text_base.specs.declared.reasons.SelectorFault.{SelectorFault}
 use Rattle.css_parser.specs.declared.pieces.Form.{Form, roll-Form}
 use Rattle.css_parser.specs.declared.pieces.Form.TheOpen as open_
-use Rattle.css_parser.specs.declared.pieces.Form.TheFolds.{fold-roll-Form, fold_out-Inner}
+use Rattle.css_parser.specs.declared.pieces.Form.TheFolds.{fold-roll-Form, fold_out-Inner, fold_out-Member}
 use Rattle.css_parser.specs.declared.pieces.Compound.{Compound}
 use Rattle.css_parser.specs.declared.pieces.Piece.{Piece}
 use Rattle.css_parser.specs.declared.pieces.Word.{Word}
 use Rattle.css_parser.specs.declared.pieces.Inner.{Inner, out-Inner}
+use Rattle.css_parser.specs.declared.pieces.Member.{Member, out-Member}
 use Rattle.css_parser.specs.declared.pieces.Form.TheVariants as form
 use Rattle.text_base.specs.declared.reasons.SelectorFault.TheVariants as fault
-use Rattle.css_parser.specs.Refusals.{form_layer, inner_layer, ByPlace, by_forms, by_inners, is_none, if_refused, piece_refusal, inner_refusal, inners_refusal, or_else, is_empty, form_refusal, forms_refusal, compound_refusal, selector_refusal, refusal}
+use Rattle.css_parser.specs.Choices.{is_has}
+use Rattle.css_parser.specs.Refusals.{form_layer, inner_layer, ByPlace, by_forms, by_inners, ByName, member_layer, member_refusal, members_refusal, is_none, if_refused, piece_refusal, inner_refusal, inners_refusal, or_else, is_empty, form_refusal, forms_refusal, compound_refusal, selector_refusal, refusal}
 
 module _ {A : Type 0} (xs : List A) (i : ℕ) (x : A) (l : i < length xs) (e : x ≡ get_or xs i x) where
   pub cut : drop i xs ≡ x ∷ drop (i + 1) xs
@@ -53,25 +55,30 @@ unfolding each_inner
 inners_by nameless [] = refl
 inners_by nameless (x ∷ xs) = ap (or_else (inner_refusal nameless x)) (inners_by nameless xs)
 
-abbrev ByName : Type 0
-ByName = Bool → Option SelectorFault
+each_member : Member → ByName
+each_member x nameless = member_refusal nameless x
+
+members_by : (nameless : Bool) (xs : List Member) → by_inners nameless (map each_member xs) ≡ members_refusal nameless xs
+unfolding each_member
+members_by nameless [] = refl
+members_by nameless (x ∷ xs) = ap (or_else (member_refusal nameless x)) (members_by nameless xs)
 
 pub roll_one : (nameless last : Bool) (p : Piece) → form_refusal nameless last (roll-Form (open_.One p)) ≡ piece_refusal nameless last p
 unfolding form_refusal
-roll_one nameless last p = ap (λ (h : ByPlace). h nameless last) (fold-roll-Form ByPlace ByName form_layer inner_layer (open_.One p))
+roll_one nameless last p = ap (λ (h : ByPlace). h nameless last) (fold-roll-Form ByPlace ByName ByName form_layer inner_layer member_layer (open_.One p))
 
-pub roll_choice : (nameless last : Bool) (w : Word) (xs : List Inner) → form_refusal nameless last (roll-Form (open_.Choice w xs)) ≡ inners_refusal nameless xs
-unfolding form_refusal inner_refusal each_inner
-roll_choice nameless last w xs = ap (λ (h : ByPlace). h nameless last) (fold-roll-Form ByPlace ByName form_layer inner_layer (open_.Choice w xs)) ∙ inners_by nameless xs
+pub roll_choice : (nameless last : Bool) (w : Word) (xs : List Member) → form_refusal nameless last (roll-Form (open_.Choice w xs)) ≡ members_refusal (is_has w || nameless) xs
+unfolding form_refusal member_refusal each_member
+roll_choice nameless last w xs = ap (λ (h : ByPlace). h nameless last) (fold-roll-Form ByPlace ByName ByName form_layer inner_layer member_layer (open_.Choice w xs)) ∙ members_by (is_has w || nameless) xs
 
 pub roll_deep : (nameless last : Bool) → form_refusal nameless last (roll-Form open_.Deep) ≡ Some fault.Nested
 unfolding form_refusal
-roll_deep nameless last = ap (λ (h : ByPlace). h nameless last) (fold-roll-Form ByPlace ByName form_layer inner_layer open_.Deep)
+roll_deep nameless last = ap (λ (h : ByPlace). h nameless last) (fold-roll-Form ByPlace ByName ByName form_layer inner_layer member_layer open_.Deep)
 
 pub one_refusal : (nameless last : Bool) (p : Piece) → form_refusal nameless last (form.One p) ≡ piece_refusal nameless last p
 one_refusal nameless last p = ap (form_refusal nameless last) (sym (form.rolls-One p)) ∙ roll_one nameless last p
 
-pub choice_refusal : (nameless last : Bool) (w : Word) (xs : List Inner) → form_refusal nameless last (form.Choice w xs) ≡ inners_refusal nameless xs
+pub choice_refusal : (nameless last : Bool) (w : Word) (xs : List Member) → form_refusal nameless last (form.Choice w xs) ≡ members_refusal (is_has w || nameless) xs
 choice_refusal nameless last w xs = ap (form_refusal nameless last) (sym (form.rolls-Choice w xs)) ∙ roll_choice nameless last w xs
 
 pub deep_refusal : (nameless last : Bool) → form_refusal nameless last form.Deep ≡ Some fault.Nested
@@ -80,7 +87,7 @@ deep_refusal nameless last = ap (form_refusal nameless last) (sym form.rolls-Dee
 pub inner_is : (nameless : Bool) (x : Inner) → inner_refusal nameless x ≡ or_else (if_refused (out-Inner x).prefixed fault.Prefix) (forms_refusal (nameless && is_none (out-Inner x).element) false (out-Inner x).forms)
 unfolding form_refusal inner_refusal each_form
 inner_is nameless x =
-    ap (λ (h : ByName). h nameless) (fold_out-Inner ByPlace ByName form_layer inner_layer x)
+    ap (λ (h : ByName). h nameless) (fold_out-Inner ByPlace ByName ByName form_layer inner_layer member_layer x)
     ∙ ap (or_else (if_refused (out-Inner x).prefixed fault.Prefix)) (forms_by (nameless && is_none (out-Inner x).element) false (out-Inner x).forms)
 
 pub inner_prefixed : (nameless : Bool) (x : Inner) → (out-Inner x).prefixed ≡ true → inner_refusal nameless x ≡ Some fault.Prefix
@@ -98,6 +105,23 @@ module _ (nameless : Bool) (xs : List Inner) (i : ℕ) (x : Inner) (l : i < leng
 
   pub inner_allowed : inner_refusal nameless x ≡ None → inners_refusal nameless (drop i xs) ≡ inners_refusal nameless (drop (i + 1) xs)
   inner_allowed h = inners_step ∙ ap (λ o. or_else o (inners_refusal nameless (drop (i + 1) xs))) h
+
+pub member_is : (nameless : Bool) (x : Member) → member_refusal nameless x ≡ inners_refusal nameless (out-Member x).parts
+unfolding inner_refusal member_refusal each_inner
+member_is nameless x = ap (λ (h : ByName). h nameless) (fold_out-Member ByPlace ByName ByName form_layer inner_layer member_layer x) ∙ inners_by nameless (out-Member x).parts
+
+module _ (nameless : Bool) (xs : List Member) (i : ℕ) (x : Member) (l : i < length xs) (e : x ≡ get_or xs i x) where
+  members_step : members_refusal nameless (drop i xs) ≡ or_else (member_refusal nameless x) (members_refusal nameless (drop (i + 1) xs))
+  members_step = ap (members_refusal nameless) (cut xs i x l e)
+
+  pub member_refused : (f : SelectorFault) → member_refusal nameless x ≡ Some f → members_refusal nameless (drop i xs) ≡ Some f
+  member_refused f h = members_step ∙ ap (λ o. or_else o (members_refusal nameless (drop (i + 1) xs))) h
+
+  pub member_allowed : member_refusal nameless x ≡ None → members_refusal nameless (drop i xs) ≡ members_refusal nameless (drop (i + 1) xs)
+  member_allowed h = members_step ∙ ap (λ o. or_else o (members_refusal nameless (drop (i + 1) xs))) h
+
+pub no_members : (nameless : Bool) (xs : List Member) (i : ℕ) → length xs ≤ i → members_refusal nameless (drop i xs) ≡ None
+no_members nameless xs i h = ap (members_refusal nameless) (drop_all i xs h)
 
 pub no_inners : (nameless : Bool) (xs : List Inner) (i : ℕ) → length xs ≤ i → inners_refusal nameless (drop i xs) ≡ None
 no_inners nameless xs i h = ap (inners_refusal nameless) (drop_all i xs h)

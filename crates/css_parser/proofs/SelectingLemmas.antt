@@ -1,6 +1,6 @@
 -- Which texts are lists, and why a text is none.
 use Rattle.std.proofs.Common.{map, ◌≡◌, ℕ, ◌<◌, ◌≤◌, List, [], ◌∷◌, length, refl, sym, ◌∙◌, ap, subst, arith, Bool, true, false, ◌&&◌, not}
-use Rattle.std.specs.Prelude.{Option, Some, None, Err}
+use Rattle.std.specs.Prelude.{◌||◌, Option, Some, None, Err}
 use Rattle.css_lexer.specs.declared.tokens.CssToken.{CssToken}
 use Rattle.css_lexer.specs.Tokens.{Lexes, Stops, IsLexed, most_bytes}
 use Rattle.css_lexer.proofs.EscapeLemmas.{cases_if}
@@ -16,10 +16,12 @@ use Rattle.css_parser.specs.declared.pieces.Form.TheFolds as folds
 use Rattle.css_parser.specs.declared.pieces.Form.TheFolds.{ind-Form}
 use Rattle.css_parser.specs.declared.pieces.Form.TheViews as views
 use Rattle.css_parser.specs.declared.pieces.Inner.{Inner, roll-Inner}
-use Rattle.css_parser.proofs.RefusalLemmas.{roll_one, roll_choice, roll_deep, inner_is}
+use Rattle.css_parser.specs.declared.pieces.Member.{Member, roll-Member}
+use Rattle.css_parser.proofs.RefusalLemmas.{roll_one, roll_choice, roll_deep, inner_is, member_is}
 use Rattle.css_parser.specs.declared.pieces.Compound.{Compound}
+use Rattle.css_parser.specs.Choices.{is_has}
 use Rattle.css_parser.specs.Grammar.{Reads}
-use Rattle.css_parser.specs.Refusals.{or_else, if_refused, is_none, is_empty, is_of_type, needs_element, piece_refusal, form_refusal, inner_refusal, inners_refusal, forms_refusal, compound_refusal, selector_refusal, refusal}
+use Rattle.css_parser.specs.Refusals.{or_else, if_refused, is_none, is_empty, is_of_type, needs_element, piece_refusal, form_refusal, inner_refusal, inners_refusal, member_refusal, members_refusal, forms_refusal, compound_refusal, selector_refusal, refusal}
 use Rattle.css_parser.specs.Lists.{list_of}
 use Rattle.css_parser.specs.Selecting.{Accepts, IsUnread, IsRefused, IsFault, IsUnlisted}
 use Rattle.css_parser.specs.Reading.{IsListRead}
@@ -61,6 +63,9 @@ FormKind x = (nameless last : Bool) → MayRefuse (form_refusal nameless last x)
 abbrev InnerKind : Inner → Type 0
 InnerKind x = (nameless : Bool) → MayRefuse (inner_refusal nameless x)
 
+abbrev MemberKind : Member → Type 0
+MemberKind x = (nameless : Bool) → MayRefuse (member_refusal nameless x)
+
 each_forms : (nameless last : Bool) (xs : List ((x : Form) × FormKind x)) → MayRefuse (forms_refusal nameless last (map (λ e. e.0) xs))
 each_forms nameless last [] = tt
 each_forms nameless last (e ∷ xs) = either (form_refusal nameless (last && is_empty (map (λ d. d.0) xs)) e.0) (forms_refusal nameless last (map (λ d. d.0) xs)) (e.1 nameless (last && is_empty (map (λ d. d.0) xs))) (each_forms nameless last xs)
@@ -69,19 +74,28 @@ each_inners : (nameless : Bool) (xs : List ((x : Inner) × InnerKind x)) → May
 each_inners nameless [] = tt
 each_inners nameless (e ∷ xs) = either (inner_refusal nameless e.0) (inners_refusal nameless (map (λ d. d.0) xs)) (e.1 nameless) (each_inners nameless xs)
 
-form_step_kind : (y : open_.Form-F ((x : Form) × FormKind x) ((x : Inner) × InnerKind x)) → FormKind (roll-Form (folds.map-Form _ _ _ _ (λ e. e.0) (λ e. e.0) y))
+each_members : (nameless : Bool) (xs : List ((x : Member) × MemberKind x)) → MayRefuse (members_refusal nameless (map (λ e. e.0) xs))
+each_members nameless [] = tt
+each_members nameless (e ∷ xs) = either (member_refusal nameless e.0) (members_refusal nameless (map (λ d. d.0) xs)) (e.1 nameless) (each_members nameless xs)
+
+form_step_kind : (y : open_.Form-F ((x : Form) × FormKind x) ((x : Inner) × InnerKind x) ((x : Member) × MemberKind x)) → FormKind (roll-Form (folds.map-Form _ _ _ _ _ _ (λ e. e.0) (λ e. e.0) (λ e. e.0) y))
 form_step_kind (open_.One p) nameless last = subst MayRefuse (sym (roll_one nameless last p)) (piece_kind nameless last p)
-form_step_kind (open_.Choice w xs) nameless last = subst MayRefuse (sym (roll_choice nameless last w (map (λ e. e.0) xs))) (each_inners nameless xs)
+form_step_kind (open_.Choice w xs) nameless last = subst MayRefuse (sym (roll_choice nameless last w (map (λ e. e.0) xs))) (each_members (is_has w || nameless) xs)
 form_step_kind open_.Deep nameless last = subst MayRefuse (sym (roll_deep nameless last)) tt
 
-inner_step_kind : (x : open_.Inner-F Form Inner) (xs : List ((x : Form) × FormKind x)) → map (λ e. e.0) xs ≡ x.forms → InnerKind (roll-Inner x)
+inner_step_kind : (x : open_.Inner-F Form Inner Member) (xs : List ((x : Form) × FormKind x)) → map (λ e. e.0) xs ≡ x.forms → InnerKind (roll-Inner x)
 inner_step_kind x xs is nameless =
     let there : MayRefuse (forms_refusal (nameless && is_none x.element) false x.forms) = subst (λ ys. MayRefuse (forms_refusal (nameless && is_none x.element) false ys)) is (each_forms (nameless && is_none x.element) false xs) in
-    subst MayRefuse (sym (inner_is nameless (roll-Inner x) ∙ ap (λ (d : open_.Inner-F Form Inner). or_else (if_refused d.prefixed fault.Prefix) (forms_refusal (nameless && is_none d.element) false d.forms)) (views.out-roll-Inner x)))
+    subst MayRefuse (sym (inner_is nameless (roll-Inner x) ∙ ap (λ (d : open_.Inner-F Form Inner Member). or_else (if_refused d.prefixed fault.Prefix) (forms_refusal (nameless && is_none d.element) false d.forms)) (views.out-roll-Inner x)))
     (either (if_refused x.prefixed fault.Prefix) _ (when x.prefixed fault.Prefix tt) there)
 
+member_step_kind : (x : open_.Member-F Form Inner Member) (xs : List ((x : Inner) × InnerKind x)) → map (λ e. e.0) xs ≡ x.parts → MemberKind (roll-Member x)
+member_step_kind x xs is nameless =
+    subst MayRefuse (sym (member_is nameless (roll-Member x) ∙ ap (λ (d : open_.Member-F Form Inner Member). inners_refusal nameless d.parts) (views.out-roll-Member x)))
+    (subst (λ ys. MayRefuse (inners_refusal nameless ys)) is (each_inners nameless xs))
+
 form_kind : (x : Form) → FormKind x
-form_kind = ind-Form FormKind InnerKind (λ x y is. subst (λ z. FormKind (roll-Form z)) is (form_step_kind y)) (λ x y is. inner_step_kind x y.forms (ap (λ (d : open_.Inner-F Form Inner). d.forms) is))
+form_kind = ind-Form FormKind InnerKind MemberKind (λ x y is. subst (λ z. FormKind (roll-Form z)) is (form_step_kind y)) (λ x y is. inner_step_kind x y.forms (ap (λ (d : open_.Inner-F Form Inner Member). d.forms) is)) (λ x y is. member_step_kind x y.parts (ap (λ (d : open_.Member-F Form Inner Member). d.parts) is))
 
 forms_kind : (nameless last : Bool) (xs : List Form) → MayRefuse (forms_refusal nameless last xs)
 forms_kind nameless last [] = tt

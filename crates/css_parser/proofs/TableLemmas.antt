@@ -2,11 +2,11 @@
 use Rattle.std.proofs.lemmas.List.{get_or_append_left, get_or_push}
 use Rattle.std.proofs.lemmas.Bool.{cases_lt}
 use Rattle.std.proofs.Common.{inl, inr, ◌⊎◌, length-append, ◌≡◌, ℕ, ◌+◌, ◌-◌, ◌<◌, ◌≤◌, List, [], ◌∷◌, ◌++◌, length, get_or, sym, ◌∙◌, ap, subst, arith}
-use Rattle.std.specs.Prelude.{Option, Some, None}
+use Rattle.std.specs.Prelude.{false, Option, Some, None}
 use Rattle.css_lexer.specs.declared.tokens.CssToken.{CssToken}
 use Rattle.css_parser.specs.declared.pieces.Word.{Word}
-use Rattle.css_parser.specs.declared.pieces.InnersRead.{InnersRead}
-use Rattle.css_parser.specs.Choices.{word_at, deep_read, simple_by, inners}
+use Rattle.css_parser.specs.declared.pieces.ListRead.{ListRead}
+use Rattle.css_parser.specs.Choices.{word_at, deep_read, simple_by, members}
 use Rattle.css_parser.specs.Reading.{IsChoiceEnd, IsTable}
 use Rattle.css_parser.proofs.ChoiceLemmas.{deep_is}
 
@@ -14,12 +14,12 @@ module _ (text : List ℕ) (ts : List CssToken) where
   pub no_choice : (i : ℕ) → word_at ts i ≡ None → IsChoiceEnd text ts i None
   no_choice i e w f = let z : None ≡ Some w = sym e ∙ f in cc
 
-  -- the compounds that are read with no room are those that are read at any depth
-  pub read_end : (i : ℕ) (w : Word) (r : InnersRead) → i < length ts → word_at ts i ≡ Some w → Some r ≡ inners text ts (simple_by text ts 0) (i + 2) → IsChoiceEnd text ts i (Some r.end)
+  -- the members that are read with no room are those that are read at any depth
+  pub read_end : (i : ℕ) (w : Word) (r : ListRead) → i < length ts → word_at ts i ≡ Some w → Some r ≡ members text ts (simple_by text ts 0 false) w (i + 2) → IsChoiceEnd text ts i (Some r.end)
   unfolding simple_by
   read_end i w r l e h v f = sym (deep_is text ts i w (omega arith) e ∙ ap deep_read (sym h))
 
-  pub no_end : (i : ℕ) (w : Word) → i < length ts → word_at ts i ≡ Some w → None ≡ inners text ts (simple_by text ts 0) (i + 2) → IsChoiceEnd text ts i None
+  pub no_end : (i : ℕ) (w : Word) → i < length ts → word_at ts i ≡ Some w → None ≡ members text ts (simple_by text ts 0 false) w (i + 2) → IsChoiceEnd text ts i None
   unfolding simple_by
   no_end i w l e h v f = sym (deep_is text ts i w (omega arith) e ∙ ap deep_read (sym h))
 

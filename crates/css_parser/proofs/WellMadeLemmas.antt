@@ -1,11 +1,9 @@
 -- Every accepted list is well made.
-use Rattle.std.proofs.Common.{◌≡◌, ℕ, ◌+◌, ◌*◌, ◌<◌, ◌≤◌, Bool, true, false, List, [], ◌∷◌, length, map, flat_map, refl, sym, ◌∙◌, ap, subst, arith}
-use Rattle.std.specs.Prelude.{◌==◌, ◌≢◌, Option, Some, None, All, sum_by, nat_lt}
+use Rattle.std.proofs.Common.{◌≡◌, ℕ, ◌+◌, ◌*◌, ◌<◌, ◌≤◌, Bool, false, List, [], ◌∷◌, length, map, flat_map, refl, sym, ◌∙◌, ap, subst, arith}
+use Rattle.std.specs.Prelude.{◌≢◌, Option, Some, None, All, sum_by}
 use Rattle.std.proofs.lemmas.List.Elements.{All-nil, All-cons}
 use Rattle.std.proofs.lemmas.List.Sums.{sum_by-cons}
-use Rattle.css_lexer.proofs.EscapeLemmas.{cases_if}
 use Rattle.css_lexer.proofs.TokenPlaces.{few_tokens}
-use Rattle.css_lexer.specs.declared.tokens.CssKind.TheVariants as kind
 use Rattle.css_lexer.specs.declared.tokens.CssToken.{CssToken}
 use Rattle.css_lexer.specs.Tokens.{Lexes}
 use Rattle.text_base.specs.declared.reasons.SelectorFault.{SelectorFault}
@@ -25,21 +23,21 @@ use Rattle.css_selectors.proofs.Equations.{size_of_part}
 use Rattle.css_parser.specs.declared.pieces.Form.{Form}
 use Rattle.css_parser.specs.declared.pieces.Compound.{Compound}
 use Rattle.css_parser.specs.declared.pieces.ElementRead.{ElementRead}
-use Rattle.css_parser.specs.declared.pieces.LinkRead.{LinkRead}
-use Rattle.css_parser.specs.Places.{code_at, stands, skip}
+use Rattle.css_parser.specs.Places.{skip}
 use Rattle.css_parser.specs.Simples.{element}
 use Rattle.css_parser.specs.Choices.{simple}
-use Rattle.css_parser.specs.Grammar.{Simples, HasElement, past_element, IsCompound, linked, combinator, Further, IsSelector, Others, Reads}
+use Rattle.css_parser.specs.Grammar.{Simples, HasElement, past_element, IsCompound, Further, IsSelector, Others, Reads}
 use Rattle.css_parser.specs.Refusals.{if_refused, is_none, is_empty, forms_refusal, compound_refusal, selector_refusal, refusal}
 use Rattle.css_parser.specs.Values.{form_simples}
 use Rattle.css_parser.specs.Lists.{part_of, selector_of, list_of}
 use Rattle.css_parser.specs.Reading.{EndsForm}
 use Rattle.css_parser.specs.Selecting.{Accepts}
-use Rattle.css_parser.proofs.PlaceLemmas.{skip_order, skip_within, stands_within}
+use Rattle.css_parser.proofs.PlaceLemmas.{skip_within, stands_within}
 use Rattle.css_parser.proofs.Fitting.{element_behind}
 use Rattle.css_parser.proofs.ChoiceLemmas.{simple_ends}
 use Rattle.css_parser.proofs.ValueFits.{GivesForms, neither, forms_give}
 use Rattle.css_parser.proofs.ChoiceFits.{by_gives}
+use Rattle.css_parser.proofs.LinkLemmas.{joined}
 
 -- what is seen of a part
 abbrev PartLayer : Type 0
@@ -55,8 +53,8 @@ size_is : (c : Compound) → part_size (part_of c) ≡ 1 + sum_by simple_size (f
 size_is c = size_of_part (part_of c) ∙ ap (λ (d : PartLayer). 1 + sum_by simple_size d.simples) (part_is c)
 
 module _ (text : List ℕ) (ts : List CssToken) where
-  forms_given : (i j : ℕ) (xs : List Form) → i ≤ length ts → Simples text ts i xs j → GivesForms 8 i xs j
-  forms_given i j xs low h = forms_give ts 8 (simple text ts) (simple_ends text ts) (λ k l. by_gives text ts 8 k l) i j xs low h
+  forms_given : (i j : ℕ) (xs : List Form) → i ≤ length ts → Simples text ts i xs j → GivesForms 8 false i xs j
+  forms_given i j xs low h = forms_give ts 8 false (simple text ts) (simple_ends text ts) (λ k l. by_gives text ts 8 k false l) i j xs low h
 
   record IsSpan (i j : ℕ) : Type 0 where
     order : i ≤ j
@@ -82,7 +80,7 @@ module _ (text : List ℕ) (ts : List CssToken) where
     size : part_size (part_of c) + 2 * i ≤ 2 * j
     within : j ≤ length ts
 
-  of_forms : (i k j : ℕ) (c : Compound) → i ≤ k → i < j → j ≤ length ts → GivesForms 8 k c.forms j → Given c i j
+  of_forms : (i k j : ℕ) (c : Compound) → i ≤ k → i < j → j ≤ length ts → GivesForms 8 false k c.forms j → Given c i j
   of_forms i k j c le moves end g = record {
     part = λ last r.
         let parts = neither (if_refused c.prefixed _) (forms_refusal (is_none c.element) last c.forms) r in
@@ -107,34 +105,6 @@ module _ (text : List ℕ) (ts : List CssToken) where
           let size = g.size in
           of_forms i r.end j c (omega arith) (omega arith) (forms_span r.end j c.forms behind.within simples).within g
 
-  -- combinators
-  record IsJoined (i : ℕ) (r : LinkRead) : Type 0 where
-    other : r.link ≢ link.First
-    order : i ≤ r.end
-    within : i ≤ length ts → r.end ≤ length ts
-
-  some_link : (r l : LinkRead) → Some r ≡ Some l → r ≡ l
-  some_link r l e = cc
-
-  abbrev Joins : ℕ → LinkRead → Option LinkRead → Type 0
-  Joins i r o = o ≡ Some r → IsJoined i r
-
-  joined : (i : ℕ) (r : LinkRead) → combinator ts i ≡ Some r → IsJoined i r
-  unfolding combinator
-  joined i r =
-      let j = skip ts i in
-      let low = skip_order ts i in let more = skip_order ts (j + 1) in
-      let behind : (n : ℕ) → 0 < n → (code_at ts j == n) ≡ true → skip ts (j + 1) ≤ length ts = λ n some h. skip_within ts (j + 1) (let k = stands_within ts j n some h in omega arith) in
-      cases_if (stands kind.Greater ts j) (Some (linked ts link.Child (j + 1))) _ (Joins i r)
-      (λ h e. subst (IsJoined i) (some_link (linked ts link.Child (j + 1)) r e) (record { other = λ f. cc; order = omega arith; within = λ _. behind 21 (omega arith) h }))
-      (λ _. cases_if (stands kind.Plus ts j) (Some (linked ts link.Next (j + 1))) _ (Joins i r)
-      (λ h e. subst (IsJoined i) (some_link (linked ts link.Next (j + 1)) r e) (record { other = λ f. cc; order = omega arith; within = λ _. behind 20 (omega arith) h }))
-      (λ _. cases_if (stands kind.Tilde ts j) (Some (linked ts link.Later (j + 1))) _ (Joins i r)
-      (λ h e. subst (IsJoined i) (some_link (linked ts link.Later (j + 1)) r e) (record { other = λ f. cc; order = omega arith; within = λ _. behind 22 (omega arith) h }))
-      (λ _. cases_if (nat_lt i j) (Some (linked ts link.Descendant i)) None (Joins i r)
-      (λ _ e. subst (IsJoined i) (some_link (linked ts link.Descendant i) r e) (record { other = λ f. cc; order = omega arith; within = λ l. skip_within ts i l }))
-      (λ _ e. cc))))
-
   abbrev IsOther : Part → Type 0
   IsOther p = (out-Part p).link ≢ link.First
 
@@ -148,7 +118,7 @@ module _ (text : List ℕ) (ts : List CssToken) where
   rest i j [] l h r = record { links = All-nil IsOther; parts = All-nil made.IsPart; size = omega arith; within = omega arith }
   rest i j (c ∷ cs) l h r =
       let parts = neither (compound_refusal (is_empty cs) c) (selector_refusal cs) r in
-      let join = joined i _ h.2 in
+      let join = joined ts i _ h.2 in
       let first = given h.0 h.1 c (join.within l) h.3 in
       let more = rest h.1 j cs first.within h.4 parts.other in
       let low = join.order in let here = first.size in let there = more.size in

@@ -2,11 +2,13 @@
 ghost use Rattle.std.specs.Prelude.{◌≡◌, ◌++◌, ◌∷◌, [], ◌<◌, ◌≤◌, length, IfOk, Some, None};
 ghost use Rattle.css_parser.specs.Grammar as spec;
 ghost use Rattle.css_parser.specs.Simples.{element as element_at};
-ghost use Rattle.css_parser.specs.Reading.{AreInside, EndsLink, IsTable, IsCompoundRead, IsFurtherRead, IsSelectorRead, IsListRead};
+ghost use Rattle.css_parser.specs.Reading.{AreInside, IsTable, IsCompoundRead, IsFurtherRead, IsSelectorRead, IsListRead};
 
 use crate::attributes::element;
-use crate::choices::{choice_ends, forms};
-use crate::pieces::{Compound, CompoundRead, ElementRead, FormsRead, LinkRead, SelectorRead};
+use crate::choices::forms;
+use crate::ends::choice_ends;
+use crate::links::combinator;
+use crate::pieces::{Compound, CompoundRead, ElementRead, SelectorRead};
 use crate::places::{skip, stands};
 use css_lexer::{CssKind, CssToken};
 use css_selectors::Link;
@@ -37,7 +39,7 @@ fn behind_element(
         prefixed,
         end,
     } = element;
-    let read = forms(alloc, text, tokens, ends, 8, end)?;
+    let read = forms(alloc, text, tokens, ends, 8, false, end)?;
     Ok(CompoundRead {
         compound: Compound {
             link,
@@ -66,7 +68,7 @@ fn without_element(
     requires stands { element_at tokens.now at ≡ None }
     ensures { IfOk result (IsCompoundRead text.now tokens.now link at) }
 {
-    let read = forms(alloc, text, tokens, ends, 8, at)?;
+    let read = forms(alloc, text, tokens, ends, 8, false, at)?;
     if read.forms.is_empty() {
         return Ok(None);
     }
@@ -102,40 +104,6 @@ fn compound(
             Ok(Some(read))
         }
         None => without_element(alloc, text, tokens, ends, link, at),
-    }
-}
-
-/// The link, and the first place from a place on at which no Space stands.
-fn linked(tokens: &[CssToken], link: Link, at: usize) -> LinkRead
-    requires { at ≤ length tokens.now }
-    ensures read { result ≡ spec.linked tokens.now link at }
-    ensures order { at ≤ result.end }
-    ensures within { result.end ≤ length tokens.now }
-{
-    LinkRead {
-        link,
-        end: skip(tokens, at),
-    }
-}
-
-/// The combinator at a place, if one stands there.
-#[tactic(auto, unfolding(crate::specs::Grammar::combinator))]
-fn combinator(tokens: &[CssToken], at: usize) -> Option<LinkRead>
-    requires { at ≤ length tokens.now }
-    ensures read { result ≡ spec.combinator tokens.now at }
-    ensures ends { EndsLink tokens.now at result }
-{
-    let sign = skip(tokens, at);
-    if stands(tokens, sign, CssKind::Greater) {
-        Some(linked(tokens, Link::Child, sign + 1))
-    } else if stands(tokens, sign, CssKind::Plus) {
-        Some(linked(tokens, Link::Next, sign + 1))
-    } else if stands(tokens, sign, CssKind::Tilde) {
-        Some(linked(tokens, Link::Later, sign + 1))
-    } else if at < sign {
-        Some(linked(tokens, Link::Descendant, at))
-    } else {
-        None
     }
 }
 

@@ -11,7 +11,8 @@ use std::alloc::Global;
 use text_base::SelectorFault;
 
 /// The list of selectors that a text is, after Selectors Level 3, section 10, with `:is`, `:not` and
-/// `:where` of lists of compounds, after Selectors Level 4, sections 4.2 to 4.4.
+/// `:where` of lists of compounds and `:has` of lists of relative selectors, after Selectors Level 4,
+/// sections 4.2 to 4.5.
 ///
 /// `Long` where the text has more than 16,384 bytes, else `Text` where no token begins at a place,
 /// else `Syntax` where the grammar reads the tokens as no list, else the first from left to right of

@@ -2,7 +2,8 @@
 ghost use Rattle.std.specs.Prelude.{◌≡◌, ◌&&◌};
 ghost use Rattle.css_parser.specs.Refusals as spec;
 
-use crate::pieces::{Compound, Form, Inner, Piece, Plain};
+use crate::choices::is_has;
+use crate::pieces::{Compound, Form, Inner, Member, Piece, Plain};
 use css_selectors::{Nth, Pseudo};
 use text_base::{SelectorFault, Seq, Txt};
 
@@ -85,7 +86,10 @@ fn form_refusal(nameless: bool, last: bool, form: &Form) -> Option<SelectorFault
 {
     match form {
         Form::One(piece) => piece_refusal(nameless, last, piece),
-        Form::Choice(_, inners) => inners_refusal(nameless, inners.as_slice()),
+        Form::Choice(word, members) => members_refusal(
+            is_has(*word) || nameless,
+            members.as_slice(),
+        ),
         Form::Deep => Some(SelectorFault::Nested),
     }
 }
@@ -132,6 +136,32 @@ fn inners_refusal(nameless: bool, inners: &[Inner]) -> Option<SelectorFault>
     let mut at = 0;
     while at < inners.len() {
         let found = inner_refusal(nameless, &inners[at]);
+        if let Some(fault) = found {
+            return Some(fault);
+        }
+        at += 1;
+    }
+    None
+}
+
+/// The first refusal of what stands in a choice once.
+#[cycle(refusals)]
+#[tactic(auto, using(crate::proofs::RefusalLemmas::member_is))]
+fn member_refusal(nameless: bool, member: &Member) -> Option<SelectorFault>
+    ensures { result ≡ spec.member_refusal nameless member.now }
+{
+    inners_refusal(nameless, member.parts.as_slice())
+}
+
+/// The first refusal of what stands in a choice.
+#[cycle(refusals)]
+#[tactic(auto, using(crate::proofs::RefusalLemmas::member_refused, crate::proofs::RefusalLemmas::member_allowed, crate::proofs::RefusalLemmas::no_members))]
+fn members_refusal(nameless: bool, members: &[Member]) -> Option<SelectorFault>
+    ensures { result ≡ spec.members_refusal nameless members.now }
+{
+    let mut at = 0;
+    while at < members.len() {
+        let found = member_refusal(nameless, &members[at]);
         if let Some(fault) = found {
             return Some(fault);
         }

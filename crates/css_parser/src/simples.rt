@@ -27,6 +27,8 @@ pub(crate) fn word_called(name: &str) -> Option<Word>
         Some(Word::Where)
     } else if name.eq_ignore_ascii_case("not") {
         Some(Word::Not)
+    } else if name.eq_ignore_ascii_case("has") {
+        Some(Word::Has)
     } else {
         None
     }

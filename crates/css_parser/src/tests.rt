@@ -79,7 +79,6 @@ fn choices(rt: HostRuntime) -> Result<(), Fail> {
         ("::where(a)", "Syntax"),
         (":foo(:is())", "UnknownPseudo"),
         (":is", "UnknownPseudo"),
-        ("a:has(b)", "UnknownPseudo"),
     ];
     for (text, word) in rows {
         assert!(rt; gives(alloc, text, word));

@@ -1,9 +1,9 @@
-//! What forms and inners are as simple selectors and compounds.
+//! What forms, inners and members are as simple selectors, compounds and relative selectors.
 ghost use Rattle.std.specs.Prelude.{◌≡◌, ◌++◌, map, flat_map, IfOk, OnOk};
 ghost use Rattle.css_parser.specs.Values as spec;
 
-use crate::pieces::{Form, Inner, Piece, Plain, Word};
-use css_selectors::{Compound, Simple, Test, Weight};
+use crate::pieces::{Form, Inner, Member, Piece, Plain, Word};
+use css_selectors::{Compound, Part, Relative, Simple, Test, Weight};
 use std::alloc::Global;
 use text_base::{NoMemory, Seq, Txt};
 
@@ -83,13 +83,25 @@ fn inner_alone(alloc: Global, inner: &Inner) -> Result<Option<Test>, NoMemory>
     }
 }
 
-/// The test of what stands in a choice, if that is one inner with such a test.
+/// The test of a member, if that is one inner with such a test.
 #[tactic(auto, using(crate::proofs::ValueLemmas::one_inner, crate::proofs::ValueLemmas::more_inners))]
 fn alone_of(alloc: Global, inners: &[Inner]) -> Result<Option<Test>, NoMemory>
     ensures { IfOk result (λ test. test ≡ spec.alone_of (map spec.inner_value inners.now)) }
 {
     if inners.len() == 1 {
         inner_alone(alloc, &inners[0])
+    } else {
+        Ok(None)
+    }
+}
+
+/// The test of what stands in a choice, if that is one member with such a test.
+#[tactic(auto, using(crate::proofs::ValueLemmas::one_member, crate::proofs::ValueLemmas::more_members))]
+fn only_of(alloc: Global, members: &[Member]) -> Result<Option<Test>, NoMemory>
+    ensures { IfOk result (λ test. test ≡ spec.only_of (map spec.member_value members.now)) }
+{
+    if members.len() == 1 {
+        alone_of(alloc, members[0].parts.as_slice())
     } else {
         Ok(None)
     }
@@ -121,8 +133,8 @@ fn push_simples(alloc: Global, form: &Form, simples: &mut Seq<Simple>) -> Result
 {
     match form {
         Form::One(piece) => push_piece(alloc, piece, simples),
-        Form::Choice(word, inners) => {
-            let simple = choice_simple(alloc, *word, inners.as_slice())?;
+        Form::Choice(word, members) => {
+            let simple = choice_simple(alloc, *word, members.as_slice())?;
             simples.push(simple)?;
             Ok(())
         }
@@ -155,59 +167,140 @@ fn compound_of(alloc: Global, inner: &Inner) -> Result<Compound, NoMemory>
     Ok(Compound { element, simples })
 }
 
+/// Adds the compounds that stand in a member.
 #[cycle(values)]
-#[tactic(auto, using(crate::proofs::CopyLemmas::compounds_more, crate::proofs::CopyLemmas::all_taken))]
-fn compounds_of(alloc: Global, inners: &[Inner]) -> Result<Seq<Compound>, NoMemory>
-    ensures { IfOk result (λ list. list ≡ map spec.compound_of inners.now) }
+#[tactic(auto, using(crate::proofs::CopyLemmas::compounds_begun, crate::proofs::CopyLemmas::compounds_more, crate::proofs::CopyLemmas::compounds_done))]
+fn push_compounds(
+    alloc: Global,
+    member: &Member,
+    compounds: &mut Seq<Compound>,
+) -> Result<(), NoMemory>
+    ensures { OnOk result (compounds.new ≡ compounds.old ++ spec.compounds_in member.now) }
 {
-    let mut compounds = Seq::new(alloc);
+    let inners = member.parts.as_slice();
     let mut at = 0;
     while at < inners.len() {
         let compound = compound_of(alloc, &inners[at])?;
         compounds.push(compound)?;
         at += 1;
     }
+    Ok(())
+}
+
+#[cycle(values)]
+#[tactic(auto, using(crate::proofs::CopyLemmas::members_more, crate::proofs::CopyLemmas::all_taken))]
+fn compounds_of(alloc: Global, members: &[Member]) -> Result<Seq<Compound>, NoMemory>
+    ensures { IfOk result (λ list. list ≡ flat_map spec.compounds_in members.now) }
+{
+    let mut compounds = Seq::new(alloc);
+    let mut at = 0;
+    while at < members.len() {
+        push_compounds(alloc, &members[at], &mut compounds)?;
+        at += 1;
+    }
     Ok(compounds)
+}
+
+/// The part that an inner is.
+#[cycle(values)]
+#[tactic(auto, using(crate::proofs::ValueLemmas::part_is))]
+fn part_of(alloc: Global, inner: &Inner) -> Result<Part, NoMemory>
+    ensures { IfOk result (λ part. part ≡ spec.part_of inner.now) }
+{
+    let element = name_copy(alloc, &inner.element)?;
+    let simples = simples_of(alloc, inner.forms.as_slice())?;
+    Ok(Part {
+        link: inner.link,
+        element,
+        simples,
+    })
+}
+
+#[cycle(values)]
+#[tactic(auto, using(crate::proofs::CopyLemmas::inner_parts_more, crate::proofs::CopyLemmas::all_taken))]
+fn parts_of(alloc: Global, inners: &[Inner]) -> Result<Seq<Part>, NoMemory>
+    ensures { IfOk result (λ parts. parts ≡ map spec.part_of inners.now) }
+{
+    let mut parts = Seq::new(alloc);
+    let mut at = 0;
+    while at < inners.len() {
+        let part = part_of(alloc, &inners[at])?;
+        parts.push(part)?;
+        at += 1;
+    }
+    Ok(parts)
+}
+
+/// The relative selector that a member is.
+#[cycle(values)]
+#[tactic(auto, using(crate::proofs::ValueLemmas::relative_is))]
+fn relative_of(alloc: Global, member: &Member) -> Result<Relative, NoMemory>
+    ensures { IfOk result (λ relative. relative ≡ spec.relative_of member.now) }
+{
+    let parts = parts_of(alloc, member.parts.as_slice())?;
+    Ok(Relative { parts })
+}
+
+#[cycle(values)]
+#[tactic(auto, using(crate::proofs::CopyLemmas::relatives_more, crate::proofs::CopyLemmas::all_taken))]
+fn relatives_of(alloc: Global, members: &[Member]) -> Result<Seq<Relative>, NoMemory>
+    ensures { IfOk result (λ list. list ≡ map spec.relative_of members.now) }
+{
+    let mut relatives = Seq::new(alloc);
+    let mut at = 0;
+    while at < members.len() {
+        let relative = relative_of(alloc, &members[at])?;
+        relatives.push(relative)?;
+        at += 1;
+    }
+    Ok(relatives)
 }
 
 /// The simple selector that a choice is.
 #[cycle(values)]
-#[tactic(auto, using(crate::proofs::ValueLemmas::is_value, crate::proofs::ValueLemmas::where_value))]
-fn choice_simple(alloc: Global, word: Word, inners: &[Inner]) -> Result<Simple, NoMemory>
-    ensures { IfOk result (λ simple. simple ≡ spec.choice_value word (map spec.inner_value inners.now)) }
+#[tactic(auto, using(crate::proofs::ValueLemmas::is_value, crate::proofs::ValueLemmas::where_value, crate::proofs::ValueLemmas::has_value))]
+fn choice_simple(alloc: Global, word: Word, members: &[Member]) -> Result<Simple, NoMemory>
+    ensures { IfOk result (λ simple. simple ≡ spec.choice_value word (map spec.member_value members.now)) }
 {
     match word {
         Word::Is => {
-            let list = compounds_of(alloc, inners)?;
+            let list = compounds_of(alloc, members)?;
             Ok(Simple {
                 negated: false,
                 test: Test::Any(Weight::Most, list),
             })
         }
         Word::Where => {
-            let list = compounds_of(alloc, inners)?;
+            let list = compounds_of(alloc, members)?;
             Ok(Simple {
                 negated: false,
                 test: Test::Any(Weight::Zero, list),
             })
         }
-        Word::Not => negation(alloc, inners),
+        Word::Not => negation(alloc, members),
+        Word::Has => {
+            let list = relatives_of(alloc, members)?;
+            Ok(Simple {
+                negated: false,
+                test: Test::Has(list),
+            })
+        }
     }
 }
 
 /// The simple selector that a negation is.
 #[cycle(values)]
 #[tactic(auto, using(crate::proofs::ValueLemmas::negates_alone, crate::proofs::ValueLemmas::negates_any))]
-fn negation(alloc: Global, inners: &[Inner]) -> Result<Simple, NoMemory>
-    ensures { IfOk result (λ simple. simple ≡ spec.negation (spec.alone_of (map spec.inner_value inners.now)) (map spec.inner_value inners.now)) }
+fn negation(alloc: Global, members: &[Member]) -> Result<Simple, NoMemory>
+    ensures { IfOk result (λ simple. simple ≡ spec.negation (spec.only_of (map spec.member_value members.now)) (map spec.member_value members.now)) }
 {
-    match alone_of(alloc, inners)? {
+    match only_of(alloc, members)? {
         Some(test) => Ok(Simple {
             negated: true,
             test,
         }),
         None => {
-            let list = compounds_of(alloc, inners)?;
+            let list = compounds_of(alloc, members)?;
             Ok(Simple {
                 negated: true,
                 test: Test::Any(Weight::Most, list),

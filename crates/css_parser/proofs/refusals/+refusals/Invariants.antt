@@ -1,5 +1,5 @@
 use Rattle.std.proofs.Common.{◌≡◌, ◌-◌, ◌≤◌, length, drop}
-use Rattle.css_parser.specs.Refusals.{forms_refusal, inners_refusal}
+use Rattle.css_parser.specs.Refusals.{forms_refusal, inners_refusal, members_refusal}
 use Rattle.css_parser.proofs.refusals.+refusals.Given as goal
 
 abbrev pub invariant-forms_refusal-loop-at : goal.invariant-forms_refusal-loop-at
@@ -19,3 +19,12 @@ invariant-inners_refusal-loop-at l = record {
 
 abbrev pub decreases-inners_refusal-loop-at : goal.decreases-inners_refusal-loop-at
 decreases-inners_refusal-loop-at l = length l.inners - l.at
+
+abbrev pub invariant-members_refusal-loop-at : goal.invariant-members_refusal-loop-at
+invariant-members_refusal-loop-at l = record {
+  within : l.at ≤ length l.members;
+  same : members_refusal l.nameless (drop l.at l.members) ≡ members_refusal l.nameless l.members;
+}
+
+abbrev pub decreases-members_refusal-loop-at : goal.decreases-members_refusal-loop-at
+decreases-members_refusal-loop-at l = length l.members - l.at

@@ -1,6 +1,6 @@
 use Rattle.std.proofs.Common.{◌≡◌, ◌+◌, length}
 use Rattle.css_parser.specs.Reading.{IsTable}
-use Rattle.css_parser.proofs.choices.choice_ends.Given as goal
+use Rattle.css_parser.proofs.ends.choice_ends.Given as goal
 
 abbrev pub invariant-loop-at : goal.invariant-loop-at
 invariant-loop-at l = record {
