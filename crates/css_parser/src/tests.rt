@@ -1,4 +1,5 @@
 use crate::parse_selectors;
+use css_selectors::{Link, Test};
 use std::alloc::Global;
 use std::test::Fail;
 
@@ -79,6 +80,92 @@ fn choices(rt: HostRuntime) -> Result<(), Fail> {
         ("::where(a)", "Syntax"),
         (":foo(:is())", "UnknownPseudo"),
         (":is", "UnknownPseudo"),
+        (":is(> a)", "Syntax"),
+    ];
+    for (text, word) in rows {
+        assert!(rt; gives(alloc, text, word));
+    }
+    Ok(())
+}
+
+#[test]
+fn relatives(rt: HostRuntime) -> Result<(), Fail> {
+    let alloc = rt.alloc();
+    let rows = [
+        ("ul:has(> li.x + li)", "Ok"),
+        ("h1:has(+ p, ~ ul)", "Ok"),
+        ("p:not(:has(a))", "Ok"),
+        ("a:has(b, c):has(d)", "Ok"),
+        ("a:is(:has(b), :has(c))", "Ok"),
+        (":has( > a b ~ c , d )", "Ok"),
+        (":has(+ a+b)", "Ok"),
+        (":HAS(a)", "Ok"),
+        (":h\\61s(a)", "Ok"),
+        ("a:has(b)::text", "Ok"),
+        (":has()", "Syntax"),
+        (":has(>)", "Syntax"),
+        (":has(> > a)", "Syntax"),
+        (":has(a > )", "Syntax"),
+        (":has(a,)", "Syntax"),
+        (":has(a", "Syntax"),
+        ("::has(a)", "Syntax"),
+        (":foo(:has())", "UnknownPseudo"),
+        (":has", "UnknownPseudo"),
+    ];
+    for (text, word) in rows {
+        assert!(rt; gives(alloc, text, word));
+    }
+    Ok(())
+}
+
+/// The link of the first part of the first relative that the text begins with.
+fn first_link(alloc: Global, text: &str) -> Option<Link> {
+    let list = parse_selectors(alloc, text).ok()?;
+    let selector = list.items.as_slice().first()?;
+    let part = selector.parts.as_slice().first()?;
+    let simple = part.simples.as_slice().first()?;
+    match &simple.test {
+        Test::Has(relatives) => {
+            let relative = relatives.as_slice().first()?;
+            let first = relative.parts.as_slice().first()?;
+            Some(first.link)
+        }
+        _ => None,
+    }
+}
+
+#[test]
+fn signs(rt: HostRuntime) -> Result<(), Fail> {
+    let alloc = rt.alloc();
+    assert!(rt; first_link(alloc, ":has(a)") == Some(Link::Descendant));
+    assert!(rt; first_link(alloc, ":has( > a)") == Some(Link::Child));
+    assert!(rt; first_link(alloc, ":has(+ a > b)") == Some(Link::Next));
+    assert!(rt; first_link(alloc, ":has(~a)") == Some(Link::Later));
+    Ok(())
+}
+
+#[test]
+fn refused_in_relatives(rt: HostRuntime) -> Result<(), Fail> {
+    let alloc = rt.alloc();
+    let rows = [
+        ("a:has(b:has(c))", "Nested"),
+        (":has(:is(:has(a)))", "Nested"),
+        (":has(:not(:not(:has(a))))", "Nested"),
+        (":has(:has(:foo))", "Nested"),
+        (":has(:has())", "Syntax"),
+        (":has(:foo:has(a))", "UnknownPseudo"),
+        (":has(a:nth-child(1000001):has(b))", "Number"),
+        ("li:has(:first-of-type)", "OfType"),
+        (":has(li > :first-of-type)", "OfType"),
+        ("li:is(:has(:first-of-type))", "OfType"),
+        (":has(li:first-of-type > a)", "Ok"),
+        ("li:has(b:is(:first-of-type))", "Ok"),
+        ("a:has(x|b, :foo)", "Prefix"),
+        ("a:has(b::text)", "PseudoElement"),
+        (":is(:is(:is(:is(:is(:is(:is(:has(a))))))))", "Ok"),
+        (":is(:is(:is(:is(:is(:is(:is(:is(:has(a)))))))))", "Nested"),
+        (":has(:is(:is(:is(:is(:is(:is(:is(a))))))))", "Ok"),
+        (":has(:is(:is(:is(:is(:is(:is(:is(:is(a)))))))))", "Nested"),
     ];
     for (text, word) in rows {
         assert!(rt; gives(alloc, text, word));
