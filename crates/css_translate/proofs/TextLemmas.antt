@@ -1,5 +1,5 @@
 -- The characters of a text are scalar values, and so are those of all texts of a list.
-use Rattle.std.proofs.Common.{◌≡◌, refl, ◌∙◌, ℕ, Bool, List, [], ◌∷◌, true, ◌&&◌, sym, subst, Option}
+use Rattle.std.proofs.Common.{◌≡◌, refl, ◌∙◌, ℕ, Bool, List, [], ◌∷◌, true, sym, subst, Option}
 use Rattle.std.specs.Str.{chars, IsUtf8}
 use Rattle.std.proofs.lemmas.Str.{chars-encodes}
 use Rattle.std.proofs.lemmas.Bool.{and_from}

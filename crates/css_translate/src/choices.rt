@@ -1,8 +1,8 @@
 ghost use Rattle.std.specs.Prelude.{◌≡◌, ◌++◌, OnOk, string_bytes, flat_map, map, codes};
 ghost use Rattle.css_selectors.specs.WellMade.{innermost};
 ghost use Rattle.css_printed.specs.Names.{element_text};
-ghost use Rattle.css_printed.specs.TestTexts.{choice, test_said, compound_text, simple_text};
-ghost use Rattle.css_translate.specs.Inner.{operand_text};
+ghost use Rattle.css_printed.specs.TestTexts.{choice, path_text, test_said, compound_text, part_steps, relative_text, simple_text};
+ghost use Rattle.css_translate.specs.Inner.{link_text, or_text, step_at};
 
 use crate::languages::push_lang;
 use crate::names::push_element;
@@ -12,7 +12,8 @@ use crate::pushing::push;
 use crate::simples::{
     push_attribute_test, push_class, push_contains, push_id, push_named, push_self,
 };
-use css_selectors::{Compound, Dialect, Simple, Test};
+use crate::steps::push_link;
+use css_selectors::{Compound, Dialect, Link, Part, Relative, Simple, Test};
 use std::alloc::Global;
 use text_base::{NoMemory, Txt};
 
@@ -48,7 +49,7 @@ fn push_brackets(
         Test::Contains(value) => push_contains(out, value),
         Test::Lang(tag) => push_lang(alloc, out, dialect, tag),
         Test::Any(_, list) => push_any(alloc, out, dialect, around, list.as_slice()),
-        Test::Has(_) => Ok(()),
+        Test::Has(list) => push_has(alloc, out, dialect, list.as_slice()),
     }
 }
 
@@ -200,6 +201,13 @@ fn push_compound(
     )
 }
 
+/// ` or `, unless nothing stands before it
+fn push_or(out: &mut String, is_first: bool) -> Result<(), NoMemory>
+    ensures { OnOk result (string_bytes out.new ≡ string_bytes out.old ++ or_text is_first) }
+{
+    if is_first { Ok(()) } else { push(out, " or ") }
+}
+
 /// A compound of a choice, with ` or ` before it unless it is the first.
 #[cycle(printing)]
 fn push_operand(
@@ -210,11 +218,9 @@ fn push_operand(
     is_first: bool,
     compound: &Compound,
 ) -> Result<(), NoMemory>
-    ensures { OnOk result (string_bytes out.new ≡ string_bytes out.old ++ operand_text dialect around.now is_first compound.now) }
+    ensures { OnOk result (string_bytes out.new ≡ string_bytes out.old ++ (or_text is_first ++ compound_text dialect compound.now around.now)) }
 {
-    if !is_first {
-        push(out, " or ")?;
-    }
+    push_or(out, is_first)?;
     push_compound(alloc, out, dialect, around, compound)
 }
 
@@ -235,4 +241,123 @@ fn push_choice(
         is_first = false;
     }
     Ok(())
+}
+
+/// A part's step and the predicates of its simple selectors.
+#[cycle(printing)]
+fn push_step_and(
+    alloc: Global,
+    out: &mut String,
+    dialect: Dialect,
+    is_first: bool,
+    link: Link,
+    element: &Option<Txt>,
+    simples: &[Simple],
+) -> Result<(), NoMemory>
+    ensures { OnOk result (string_bytes out.new ≡ string_bytes out.old ++ (link_text dialect is_first link element.now ++ flat_map (λ x. simple_text dialect x element.now) simples.now)) }
+{
+    push_link(alloc, out, dialect, is_first, link, element)?;
+    push_simples(alloc, out, dialect, element, simples)
+}
+
+/// Appends a part, which is the first of a relative or stands behind another.
+#[cycle(printing)]
+#[tactic(auto, using(crate::proofs::Said::at_part))]
+pub fn push_part(
+    alloc: Global,
+    out: &mut String,
+    dialect: Dialect,
+    is_first: bool,
+    part: &Part,
+) -> Result<(), NoMemory>
+    ensures { OnOk result (string_bytes out.new ≡ string_bytes out.old ++ step_at is_first (part_steps dialect part.now)) }
+{
+    push_step_and(
+        alloc,
+        out,
+        dialect,
+        is_first,
+        part.link,
+        &part.element,
+        part.simples.as_slice(),
+    )
+}
+
+/// The parts of a relative.
+#[cycle(printing)]
+fn push_path(
+    alloc: Global,
+    out: &mut String,
+    dialect: Dialect,
+    parts: &[Part],
+) -> Result<(), NoMemory>
+    ensures { OnOk result (string_bytes out.new ≡ string_bytes out.old ++ path_text (map (part_steps dialect) parts.now)) }
+{
+    let mut is_first = true;
+    for part in parts {
+        push_part(alloc, out, dialect, is_first, part)?;
+        is_first = false;
+    }
+    Ok(())
+}
+
+#[cycle(printing)]
+#[tactic(auto, using(css_printed::proofs::PrintedAt::text_at_relative))]
+fn push_relative(
+    alloc: Global,
+    out: &mut String,
+    dialect: Dialect,
+    relative: &Relative,
+) -> Result<(), NoMemory>
+    ensures { OnOk result (string_bytes out.new ≡ string_bytes out.old ++ relative_text dialect relative.now) }
+{
+    push_path(alloc, out, dialect, relative.parts.as_slice())
+}
+
+/// A relative with ` or ` before it unless it is the first.
+#[cycle(printing)]
+fn push_alternative(
+    alloc: Global,
+    out: &mut String,
+    dialect: Dialect,
+    is_first: bool,
+    relative: &Relative,
+) -> Result<(), NoMemory>
+    ensures { OnOk result (string_bytes out.new ≡ string_bytes out.old ++ (or_text is_first ++ relative_text dialect relative.now)) }
+{
+    push_or(out, is_first)?;
+    push_relative(alloc, out, dialect, relative)
+}
+
+/// Appends relatives with ` or ` between.
+#[cycle(printing)]
+fn push_relatives(
+    alloc: Global,
+    out: &mut String,
+    dialect: Dialect,
+    relatives: &[Relative],
+) -> Result<(), NoMemory>
+    ensures { OnOk result (string_bytes out.new ≡ string_bytes out.old ++ choice (map (relative_text dialect) relatives.now)) }
+{
+    let mut is_first = true;
+    for relative in relatives {
+        push_alternative(alloc, out, dialect, is_first, relative)?;
+        is_first = false;
+    }
+    Ok(())
+}
+
+/// Relatives in brackets.
+#[cycle(printing)]
+fn push_has(
+    alloc: Global,
+    out: &mut String,
+    dialect: Dialect,
+    relatives: &[Relative],
+) -> Result<(), NoMemory>
+    ensures { OnOk result (string_bytes out.new ≡ string_bytes out.old ++ (codes "[" ++ (choice (map (relative_text dialect) relatives.now) ++ codes "]"))) }
+{
+    push(out, "[")?;
+    push_relatives(alloc, out, dialect, relatives)?;
+    push(out, "]")
 }

@@ -1,14 +1,13 @@
 ghost use Rattle.std.specs.Prelude.{◌≡◌, ◌++◌, ◌≤◌, ◌<◌, ◌⊎◌, OnOk, IfOk, IfErr, flat_map, map, length, string_bytes};
 ghost use Rattle.css_selectors.specs.WellMade.{WellMade};
-ghost use Rattle.css_printed.specs.Printed.{joined, part_text, tail_text, parts_text, selector_text, printed};
+ghost use Rattle.css_printed.specs.Printed.{joined, tail_text, parts_text, selector_text, printed};
 ghost use Rattle.css_printed.specs.Promise.{KeepsMeaning};
 ghost use Rattle.css_translate.specs.Inner.{further_text};
 ghost use Rattle.xpath_parser.specs.Reading.{most_bytes};
 
-use crate::choices::push_simples;
+use crate::choices::push_part;
 use crate::names::push_attribute;
 use crate::pushing::push;
-use crate::steps::push_step;
 use crate::texts::read_list;
 use css_selectors::{Dialect, Part, Selector, SelectorList, Tail};
 use std::alloc::Global;
@@ -16,13 +15,6 @@ use text_base::{NoMemory, SelectorFault};
 
 /// The most bytes of an XPath text.
 const MOST_BYTES: usize = 1_048_576;
-
-fn push_part(alloc: Global, out: &mut String, dialect: Dialect, part: &Part) -> Result<(), NoMemory>
-    ensures { OnOk result (string_bytes out.new ≡ string_bytes out.old ++ part_text dialect part.now) }
-{
-    push_step(alloc, out, dialect, part.link, &part.element)?;
-    push_simples(alloc, out, dialect, &part.element, part.simples.as_slice())
-}
 
 fn push_parts(
     alloc: Global,
@@ -33,7 +25,7 @@ fn push_parts(
     ensures { OnOk result (string_bytes out.new ≡ string_bytes out.old ++ parts_text dialect parts.now) }
 {
     for part in parts {
-        push_part(alloc, out, dialect, part)?;
+        push_part(alloc, out, dialect, false, part)?;
     }
     Ok(())
 }

@@ -1,5 +1,7 @@
-ghost use Rattle.std.specs.Prelude.{◌≡◌, ◌++◌, OnOk, string_bytes};
-ghost use Rattle.css_printed.specs.Printed.{step_text, next_text};
+ghost use Rattle.std.specs.Prelude.{◌≡◌, ◌++◌, OnOk, string_bytes, codes};
+ghost use Rattle.css_printed.specs.Names.{element_text};
+ghost use Rattle.css_printed.specs.Links.{next_text, first_text, step_text};
+ghost use Rattle.css_translate.specs.Inner.{link_text};
 
 use crate::names::push_element;
 use crate::pushing::push;
@@ -7,42 +9,17 @@ use css_selectors::{Dialect, Link};
 use std::alloc::Global;
 use text_base::{NoMemory, Txt};
 
-/// `descendant-or-self::name`
-fn push_first(
+/// The axis and the element: `descendant::name`
+fn push_on(
     alloc: Global,
     out: &mut String,
     dialect: Dialect,
+    axis: &str,
     element: &Option<Txt>,
 ) -> Result<(), NoMemory>
-    ensures { OnOk result (string_bytes out.new ≡ string_bytes out.old ++ step_text dialect Link.First element.now) }
+    ensures { OnOk result (string_bytes out.new ≡ string_bytes out.old ++ (axis.now ++ element_text dialect element.now)) }
 {
-    push(out, "descendant-or-self::")?;
-    push_element(alloc, out, dialect, element)
-}
-
-/// `/descendant::name`
-fn push_descendant(
-    alloc: Global,
-    out: &mut String,
-    dialect: Dialect,
-    element: &Option<Txt>,
-) -> Result<(), NoMemory>
-    ensures { OnOk result (string_bytes out.new ≡ string_bytes out.old ++ step_text dialect Link.Descendant element.now) }
-{
-    push(out, "/descendant::")?;
-    push_element(alloc, out, dialect, element)
-}
-
-/// `/name`
-fn push_child(
-    alloc: Global,
-    out: &mut String,
-    dialect: Dialect,
-    element: &Option<Txt>,
-) -> Result<(), NoMemory>
-    ensures { OnOk result (string_bytes out.new ≡ string_bytes out.old ++ step_text dialect Link.Child element.now) }
-{
-    push(out, "/")?;
+    push(out, axis)?;
     push_element(alloc, out, dialect, element)
 }
 
@@ -65,34 +42,54 @@ fn push_own_name(
     }
 }
 
-/// `/following-sibling::*[1][self::name]`
+/// `following-sibling::*[1][self::name]`
 fn push_next(
     alloc: Global,
     out: &mut String,
     dialect: Dialect,
     element: &Option<Txt>,
 ) -> Result<(), NoMemory>
-    ensures { OnOk result (string_bytes out.new ≡ string_bytes out.old ++ step_text dialect Link.Next element.now) }
+    ensures { OnOk result (string_bytes out.new ≡ string_bytes out.old ++ (codes "following-sibling::*[1]" ++ next_text dialect element.now)) }
 {
-    push(out, "/following-sibling::*[1]")?;
+    push(out, "following-sibling::*[1]")?;
     push_own_name(alloc, out, dialect, element)
 }
 
-/// `/following-sibling::name`
-fn push_later(
+/// Appends a part's axis and element, where no other step stands before it.
+fn push_first_step(
     alloc: Global,
     out: &mut String,
     dialect: Dialect,
+    link: Link,
     element: &Option<Txt>,
 ) -> Result<(), NoMemory>
-    ensures { OnOk result (string_bytes out.new ≡ string_bytes out.old ++ step_text dialect Link.Later element.now) }
+    ensures { OnOk result (string_bytes out.new ≡ string_bytes out.old ++ first_text dialect link element.now) }
 {
-    push(out, "/following-sibling::")?;
-    push_element(alloc, out, dialect, element)
+    match link {
+        Link::First => push_on(alloc, out, dialect, "descendant-or-self::", element),
+        Link::Descendant => push_on(alloc, out, dialect, "descendant::", element),
+        Link::Child => push_on(alloc, out, dialect, "child::", element),
+        Link::Next => push_next(alloc, out, dialect, element),
+        Link::Later => push_on(alloc, out, dialect, "following-sibling::", element),
+    }
 }
 
-/// Appends a part's axis and element.
-pub fn push_step(
+/// The same behind a `/`.
+fn push_further_step(
+    alloc: Global,
+    out: &mut String,
+    dialect: Dialect,
+    link: Link,
+    element: &Option<Txt>,
+) -> Result<(), NoMemory>
+    ensures { OnOk result (string_bytes out.new ≡ string_bytes out.old ++ (codes "/" ++ first_text dialect link element.now)) }
+{
+    push(out, "/")?;
+    push_first_step(alloc, out, dialect, link, element)
+}
+
+/// Appends a part's axis and element, behind the step of the part before it.
+fn push_step(
     alloc: Global,
     out: &mut String,
     dialect: Dialect,
@@ -102,10 +99,28 @@ pub fn push_step(
     ensures { OnOk result (string_bytes out.new ≡ string_bytes out.old ++ step_text dialect link element.now) }
 {
     match link {
-        Link::First => push_first(alloc, out, dialect, element),
-        Link::Descendant => push_descendant(alloc, out, dialect, element),
-        Link::Child => push_child(alloc, out, dialect, element),
-        Link::Next => push_next(alloc, out, dialect, element),
-        Link::Later => push_later(alloc, out, dialect, element),
+        Link::First => push_first_step(alloc, out, dialect, Link::First, element),
+        Link::Descendant => push_further_step(alloc, out, dialect, Link::Descendant, element),
+        Link::Child => push_on(alloc, out, dialect, "/", element),
+        Link::Next => push_further_step(alloc, out, dialect, Link::Next, element),
+        Link::Later => push_further_step(alloc, out, dialect, Link::Later, element),
+    }
+}
+
+/// Appends a part's axis and element, where the part is the first of a relative or stands behind another.
+pub fn push_link(
+    alloc: Global,
+    out: &mut String,
+    dialect: Dialect,
+    is_first: bool,
+    link: Link,
+    element: &Option<Txt>,
+) -> Result<(), NoMemory>
+    ensures { OnOk result (string_bytes out.new ≡ string_bytes out.old ++ link_text dialect is_first link element.now) }
+{
+    if is_first {
+        push_first_step(alloc, out, dialect, link, element)
+    } else {
+        push_step(alloc, out, dialect, link, element)
     }
 }

@@ -1,11 +1,22 @@
-use Rattle.std.proofs.Common.{◌≡◌, sym, ◌∙◌, ap, ◌+◌, ◌++◌, ◌∷◌, [], take, map, append_assoc, append-nil, string_bytes, List}
+use Rattle.std.proofs.Common.{◌≡◌, sym, ◌∙◌, ap, ℕ, Bool, ◌+◌, ◌++◌, ◌∷◌, [], take, map, append_assoc, string_bytes, List}
 use Rattle.std.proofs.lemmas.List.{take_more}
 use Rattle.css_selectors.specs.declared.selector.Compound.{Compound}
-use Rattle.css_printed.specs.TestTexts.{choice, test_said, compound_text}
-use Rattle.css_translate.specs.Inner.{operand_text}
+use Rattle.css_selectors.specs.declared.selector.Part.{Part}
+use Rattle.css_selectors.specs.declared.selector.Relative.{Relative}
+use Rattle.css_printed.specs.TestTexts.{choice, path_text, test_said, compound_text, part_steps, relative_text}
+use Rattle.css_translate.specs.Inner.{or_text, step_at}
 use Rattle.css_translate.proofs.Pushes.{same_piece}
 use Rattle.css_translate.proofs.Said as said
 use Rattle.css_translate.proofs.choices.+printing.Goals as goal
+
+-- one alternative more of a loop
+grows : {A : Type 0} (text : A → List ℕ) (was mid now : List ℕ) (b : Bool) (xs : List A) (y : A)
+    → mid ≡ was ++ choice (map text xs) → b ≡ said.is_nil xs → now ≡ mid ++ (or_text b ++ text y) → now ≡ was ++ choice (map text (xs ++ y ∷ []))
+grows text was mid now b xs y h first k =
+    k ∙ ap (λ f. mid ++ (or_text f ++ text y)) first
+    ∙ ap (λ s. s ++ (or_text (said.is_nil xs) ++ text y)) h
+    ∙ append_assoc was (choice (map text xs)) (or_text (said.is_nil xs) ++ text y)
+    ∙ ap (λ s. was ++ s) (sym (said.choice_more text xs y))
 
 pub push_choice-loop-compound-preserved : goal.push_choice-loop-compound-preserved
 push_choice-loop-compound-preserved t c =
@@ -13,14 +24,37 @@ push_choice-loop-compound-preserved t c =
     let i = c.loop-compound.compound-index in
     let x = c.compound-item.result in
     let more : take (i + 1) xs ≡ take i xs ++ x ∷ [] = take_more xs i x c.loop-compound-test.true ∙ ap (λ v. take i xs ++ v ∷ []) (sym c.compound-item.is) in
-    let d = c.args.dialect in
-    let around = c.args.around.now in
-    let text = λ (ys : List Compound). choice (map (λ c. compound_text d c around) ys) in (
-      c.in_ok-push_operand.ensures ∙ ap (λ b. string_bytes c.loop-compound.out ++ operand_text d around b x) c.loop-compound.invariant.1
-          ∙ ap (λ s. s ++ operand_text d around (said.is_nil (take i xs)) x) c.loop-compound.invariant.0
-          ∙ append_assoc (string_bytes c.args.out.now) (text (take i xs)) (operand_text d around (said.is_nil (take i xs)) x)
-          ∙ ap (λ s. string_bytes c.args.out.now ++ s) (sym (said.choice_more d around (take i xs) x))
-          ∙ ap (λ ys. string_bytes c.args.out.now ++ text ys) (sym more),
+    let text = λ (y : Compound). compound_text c.args.dialect y c.args.around.now in (
+      grows text _ _ _ _ (take i xs) x c.loop-compound.invariant.0 c.loop-compound.invariant.1 c.in_ok-push_operand.ensures
+          ∙ ap (λ (ys : List Compound). string_bytes c.args.out.now ++ choice (map text ys)) (sym more),
+      said.not_nil (take i xs) x ∙ ap said.is_nil (sym more),
+    )
+
+pub push_relatives-loop-relative-preserved : goal.push_relatives-loop-relative-preserved
+push_relatives-loop-relative-preserved t c =
+    let xs = c.args.relatives.now in
+    let i = c.loop-relative.relative-index in
+    let x = c.relative-item.result in
+    let more : take (i + 1) xs ≡ take i xs ++ x ∷ [] = take_more xs i x c.loop-relative-test.true ∙ ap (λ v. take i xs ++ v ∷ []) (sym c.relative-item.is) in
+    let text = relative_text c.args.dialect in (
+      grows text _ _ _ _ (take i xs) x c.loop-relative.invariant.0 c.loop-relative.invariant.1 c.in_ok-push_alternative.ensures
+          ∙ ap (λ (ys : List Relative). string_bytes c.args.out.now ++ choice (map text ys)) (sym more),
+      said.not_nil (take i xs) x ∙ ap said.is_nil (sym more),
+    )
+
+pub push_path-loop-part-preserved : goal.push_path-loop-part-preserved
+push_path-loop-part-preserved t c =
+    let xs = c.args.parts.now in
+    let i = c.loop-part.part-index in
+    let x = c.part-item.result in
+    let more : take (i + 1) xs ≡ take i xs ++ x ∷ [] = take_more xs i x c.loop-part-test.true ∙ ap (λ v. take i xs ++ v ∷ []) (sym c.part-item.is) in
+    let steps = part_steps c.args.dialect in
+    let was = string_bytes c.args.out.now in (
+      c.in_ok-push_part.ensures ∙ ap (λ b. string_bytes c.loop-part.out ++ step_at b (steps x)) c.loop-part.invariant.1
+          ∙ ap (λ s. s ++ step_at (said.is_nil (take i xs)) (steps x)) c.loop-part.invariant.0
+          ∙ append_assoc was (path_text (map steps (take i xs))) (step_at (said.is_nil (take i xs)) (steps x))
+          ∙ ap (λ s. was ++ s) (sym (said.path_more steps (take i xs) x))
+          ∙ ap (λ (ys : List Part). was ++ path_text (map steps ys)) (sym more),
       said.not_nil (take i xs) x ∙ ap said.is_nil (sym more),
     )
 
@@ -28,9 +62,3 @@ pub push_brackets-returns-in-Nth : goal.push_brackets-returns-in-Nth
 push_brackets-returns-in-Nth t c =
     same_piece _ _ _ _ _
     (sym (ap (λ u. (test_said c.args.dialect u c.args.around.now).brackets) c.in-Nth.is ∙ said.brackets_nth c.args.dialect _ _ _ c.args.around.now)) c.push_position.ensures
-
-pub push_brackets-returns-in-Has : goal.push_brackets-returns-in-Has
-push_brackets-returns-in-Has t c =
-    sym (ap (λ x. string_bytes c.args.out.now ++ x)
-    (ap (λ u. (test_said c.args.dialect u c.args.around.now).brackets) c.in-Has.is ∙ said.brackets_has c.args.dialect _ c.args.around.now)
-    ∙ append-nil (string_bytes c.args.out.now))

@@ -1,6 +1,6 @@
 use Rattle.std.proofs.Common.{◌≡◌, ◌++◌, take, string_bytes, map}
 use Rattle.std.specs.List.{flat_map}
-use Rattle.css_printed.specs.TestTexts.{choice, compound_text, simple_text}
+use Rattle.css_printed.specs.TestTexts.{choice, path_text, compound_text, part_steps, relative_text, simple_text}
 use Rattle.css_translate.proofs.Said.{is_nil}
 use Rattle.css_translate.proofs.choices.+printing.Given as goal
 
@@ -11,3 +11,11 @@ abbrev pub invariant-push_choice-loop-compound : goal.invariant-push_choice-loop
 invariant-push_choice-loop-compound l =
     (string_bytes l.out ≡ string_bytes l.fn.out ++ choice (map (λ c. compound_text l.dialect c l.around) (take l.compound-index l.compounds)))
     × (l.is_first ≡ is_nil (take l.compound-index l.compounds))
+
+abbrev pub invariant-push_relatives-loop-relative : goal.invariant-push_relatives-loop-relative
+invariant-push_relatives-loop-relative l =
+    (string_bytes l.out ≡ string_bytes l.fn.out ++ choice (map (relative_text l.dialect) (take l.relative-index l.relatives))) × (l.is_first ≡ is_nil (take l.relative-index l.relatives))
+
+abbrev pub invariant-push_path-loop-part : goal.invariant-push_path-loop-part
+invariant-push_path-loop-part l =
+    (string_bytes l.out ≡ string_bytes l.fn.out ++ path_text (map (part_steps l.dialect) (take l.part-index l.parts))) × (l.is_first ≡ is_nil (take l.part-index l.parts))

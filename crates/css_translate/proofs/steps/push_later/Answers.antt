@@ -1,6 +1,0 @@
-use Rattle.std.proofs.Common.{codes}
-use Rattle.css_translate.proofs.Pushes.{two}
-use Rattle.css_translate.proofs.steps.push_later.Goals as goal
-
-pub returns : goal.returns
-returns c = two _ _ (codes "/following-sibling::") _ _ _ c.in_ok-push.ensures c.push_element.ensures
