@@ -1,10 +1,13 @@
-ghost use Rattle.std.specs.Prelude.{◌≡◌, IfOk};
+ghost use Rattle.std.specs.Prelude.{◌≡◌, [], ◌∷◌, IfOk, Some};
+ghost use Rattle.css_selectors.specs.declared.selector.Link.TheVariants as link;
+ghost use Rattle.css_selectors.specs.Examples.{part};
 ghost use Rattle.css_selectors.specs.WellMade.{WellMade};
-ghost use Rattle.css_translate.specs.Rows.{one_compound, one_simple};
+ghost use Rattle.css_translate.specs.Rows.{children, lone, one_compound, one_simple, siblings};
 
 use crate::{literal, translate};
 use css_selectors::{
-    Compound, Dialect, Link, Nth, Op, Part, Selector, SelectorList, Simple, Tail, Test, Weight,
+    Compound, Dialect, Link, Nth, Op, Part, Relative, Selector, SelectorList, Simple, Tail, Test,
+    Weight,
 };
 use std::alloc::Global;
 use std::test::Fail;
@@ -119,6 +122,100 @@ fn first_of_name(alloc: Global) -> Result<String, Fail> {
     )
 }
 
+/// A part.
+fn part_of(link: Link, name: Txt, simples: Seq<Simple>) -> Part
+    ensures { result ≡ part link (Some name) simples }
+{
+    Part {
+        link,
+        element: Some(name),
+        simples,
+    }
+}
+
+/// A relative of one part without simple selectors.
+fn lone(alloc: Global, link: Link, name: Txt) -> Result<Relative, NoMemory>
+    ensures { IfOk result (λ r. r ≡ lone link name) }
+{
+    let mut parts = Vec::new(alloc);
+    parts.push(part_of(link, name, Seq::from_vec(Vec::new(alloc))))?;
+    Ok(Relative {
+        parts: Seq::from_vec(parts),
+    })
+}
+
+/// `+ p, ~ q`
+fn siblings(alloc: Global, p: Txt, q: Txt) -> Result<Seq<Relative>, NoMemory>
+    ensures { IfOk result (λ list. list ≡ siblings p q) }
+{
+    let mut list = Vec::new(alloc);
+    list.push(lone(alloc, Link::Next, p)?)?;
+    list.push(lone(alloc, Link::Later, q)?)?;
+    Ok(Seq::from_vec(list))
+}
+
+/// `h1:has(+ p, ~ ul)`
+fn either_sibling(alloc: Global) -> Result<String, Fail> {
+    let h1 = Txt::of(alloc, "h1")?;
+    let p = Txt::of(alloc, "p")?;
+    let ul = Txt::of(alloc, "ul")?;
+    let list = siblings(alloc, p, ul)?;
+    shown(alloc, Dialect::Html, Some(h1), false, Test::Has(list))
+}
+
+/// `> p.x + q`
+fn children(alloc: Global, p: Txt, x: Txt, q: Txt) -> Result<Seq<Relative>, NoMemory>
+    ensures { IfOk result (λ list. list ≡ children p x q) }
+{
+    let mut simples = Vec::new(alloc);
+    simples.push(Simple {
+        negated: false,
+        test: Test::Class(x),
+    })?;
+    let mut parts = Vec::new(alloc);
+    parts.push(part_of(Link::Child, p, Seq::from_vec(simples)))?;
+    parts.push(part_of(Link::Next, q, Seq::from_vec(Vec::new(alloc))))?;
+    let mut list = Vec::new(alloc);
+    list.push(Relative {
+        parts: Seq::from_vec(parts),
+    })?;
+    Ok(Seq::from_vec(list))
+}
+
+/// `ul:has(> li.x + li)`
+fn child_and_next(alloc: Global) -> Result<String, Fail> {
+    let ul = Txt::of(alloc, "ul")?;
+    let first = Txt::of(alloc, "li")?;
+    let class = Txt::of(alloc, "x")?;
+    let second = Txt::of(alloc, "li")?;
+    let list = children(alloc, first, class, second)?;
+    shown(alloc, Dialect::Html, Some(ul), false, Test::Has(list))
+}
+
+/// A descendant of that name.
+fn below(alloc: Global, name: Txt) -> Result<Seq<Relative>, NoMemory>
+    ensures { IfOk result (λ list. list ≡ lone link.Descendant name ∷ []) }
+{
+    let mut list = Vec::new(alloc);
+    list.push(lone(alloc, Link::Descendant, name)?)?;
+    Ok(Seq::from_vec(list))
+}
+
+/// `p:not(:has(a))`
+fn without(alloc: Global) -> Result<String, Fail> {
+    let p = Txt::of(alloc, "p")?;
+    let a = Txt::of(alloc, "a")?;
+    let list = below(alloc, a)?;
+    let choice = choice_of(alloc, Test::Has(list))?;
+    shown(
+        alloc,
+        Dialect::Html,
+        Some(p),
+        true,
+        Test::Any(Weight::Most, choice),
+    )
+}
+
 #[test]
 fn prints(rt: HostRuntime) -> Result<(), Fail> {
     let alloc = rt.alloc();
@@ -138,6 +235,18 @@ fn prints(rt: HostRuntime) -> Result<(), Fail> {
         (
             first_of_name(alloc)?,
             "descendant-or-self::li[self::*[count(preceding-sibling::li) = 0]]",
+        ),
+        (
+            child_and_next(alloc)?,
+            "descendant-or-self::ul[child::li[@class and contains(concat(' ', normalize-space(@class), ' '), ' x ')]/following-sibling::*[1][self::li]]",
+        ),
+        (
+            either_sibling(alloc)?,
+            "descendant-or-self::h1[following-sibling::*[1][self::p] or following-sibling::ul]",
+        ),
+        (
+            without(alloc)?,
+            "descendant-or-self::p[not(self::*[descendant::a])]",
         ),
     ] {
         assert_eq!(rt; text.as_str(), want);
