@@ -1,13 +1,14 @@
 ghost use Rattle.std.specs.Prelude.{◌≡◌, None};
 
-use crate::{BeginFault, Failed, Pages};
+use crate::{BeginFault, Failed, Pages, TRIES};
 use std::fs;
 use std::io::{ErrorKind, Read};
 use std::rt::Files;
 
 /// Pages that are files, named by their paths. They tell nothing of their bytes: what the system gives
-/// for a file is trusted. A file that can't be opened or read, a folder and a read that was interrupted
-/// are counted faults; an open without memory is `BeginFault::Memory`.
+/// for a file is trusted. A file that can't be opened or read and a folder are counted faults; an open
+/// without memory is `BeginFault::Memory`. A read that a signal ended before any byte was read is tried
+/// again, a thousand times at most.
 #[derive(Drop)]
 pub struct FilePages<'r, R: Files> {
     rt: &'r R,
@@ -64,12 +65,17 @@ impl<'r, R: Files> Pages for FilePages<'r, R> {
         let Some(file) = &mut self.file else {
             return Ok(0);
         };
-        match file.read(into) {
-            Ok(n) => Ok(n),
-            Err(_) => {
-                self.faults = self.faults.saturating_add(1);
-                Err(Failed)
+        for _ in 0..TRIES {
+            match file.read(into) {
+                Ok(n) => return Ok(n),
+                Err(error) => {
+                    if error.kind() != ErrorKind::Interrupted {
+                        break;
+                    }
+                }
             }
         }
+        self.faults = self.faults.saturating_add(1);
+        Err(Failed)
     }
 }

@@ -2,6 +2,7 @@
 #![tactic(auto)]
 
 mod file_pages;
+mod laws;
 mod mem_pages;
 mod mem_sink;
 mod null_sink;
@@ -17,6 +18,7 @@ mod tests;
 mod write;
 
 pub use file_pages::FilePages;
+pub use laws::never_counts;
 pub use mem_pages::MemPages;
 pub use mem_sink::MemSink;
 pub use null_sink::NullSink;
@@ -27,3 +29,6 @@ pub use sink::Sink;
 pub use stdout_sink::StdoutSink;
 pub use sure_pages::SurePages;
 pub use write::{WriteFault, write_whole};
+
+/// How often a call of the system is tried that a signal ended before any byte was moved.
+const TRIES: usize = 1000;

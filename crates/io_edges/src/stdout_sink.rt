@@ -1,11 +1,12 @@
 ghost use Rattle.std.specs.Prelude.{◌≡◌, None};
 
-use crate::{Failed, Sink};
+use crate::{Failed, Sink, TRIES};
 use std::io;
-use std::io::Write;
+use std::io::{ErrorKind, Write};
 
 /// Standard output as a sink. It tells nothing of what it took: what the system does with it is trusted.
-/// A write that fails or takes nothing is a counted fault.
+/// A write that fails or takes nothing is a counted fault; one that a signal ended before any byte was
+/// taken is tried again, a thousand times at most.
 #[derive(Drop)]
 pub struct StdoutSink<'r, R: Print> {
     rt: &'r R,
@@ -31,10 +32,16 @@ impl<'r, R: Print> Sink for StdoutSink<'r, R> {
         if bytes.is_empty() {
             return Ok(0);
         }
-        match io::writer(self.rt).write(bytes) {
-            Ok(0) => {}
-            Ok(n) => return Ok(n),
-            Err(_) => {}
+        for _ in 0..TRIES {
+            match io::writer(self.rt).write(bytes) {
+                Ok(0) => break,
+                Ok(n) => return Ok(n),
+                Err(error) => {
+                    if error.kind() != ErrorKind::Interrupted {
+                        break;
+                    }
+                }
+            }
         }
         self.faults = self.faults.saturating_add(1);
         Err(Failed)
