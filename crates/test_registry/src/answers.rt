@@ -75,15 +75,3 @@ pub fn near(most: u32, a: &str, b: &str) -> bool
 {
     are_near(most, number_of(a), number_of(b))
 }
-
-/// What a test of the kind answers.
-pub fn answer(kind: TestKind, a: &str, b: &str) -> bool
-    ensures { result ≡ meets kind a.now b.now }
-{
-    match kind {
-        TestKind::SameFolded => same_folded(a, b),
-        TestKind::EndsWith => ends_with(a, b),
-        TestKind::HasWord => has_word(a, b),
-        TestKind::Near(most) => near(most, a, b),
-    }
-}

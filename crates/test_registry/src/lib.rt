@@ -11,7 +11,7 @@ mod registry;
 #[cfg(test)]
 mod tests;
 
-pub use answers::{answer, ends_with, has_word, near, same_folded};
+pub use answers::{ends_with, has_word, near, same_folded};
 pub use asks::Asks;
 pub use kinds::{AddFault, TestKind};
 pub use registry::Tests;

@@ -1,16 +1,18 @@
 //! The table of functions.
-ghost use Rattle.std.specs.Prelude.{◌≡◌, ◌<◌, length, IfOk};
+ghost use Rattle.std.specs.Prelude.{◌≡◌, ◌<◌, length, None, IfOk};
 ghost use Rattle.xpath_functions.specs.Rows.{AreWithin};
+ghost use Rattle.xpath_parser.specs.Asking.{stored_kind, IsStored};
 ghost use Rattle.xpath_parser.specs.Functions as functions;
 
 use crate::{booleans, nodes, numbers, strings};
 use doc_model::Tree;
 use std::alloc::Global;
+use test_registry::{Asks, TestKind};
 use text_base::{NoMemory, Seq};
 use xpath_parser::Func;
 use xpath_values::Value;
 
-/// The value of a function, XPath 1.0, section 4, at a row, of which the context position and size are given. An
+/// The value of one of the 27 functions, XPath 1.0, section 4, at a row, of which the context position and size are given. An
 /// argument that is missing is the context row alone where the function may go without it, and else no node at all.
 pub fn call<T: Tree>(
     alloc: Global,
@@ -23,6 +25,7 @@ pub fn call<T: Tree>(
 ) -> Result<Value, NoMemory>
     requires row { node < length (T.document tree.now) }
     requires rows { AreWithin (T.document tree.now) args.now }
+    requires own { stored_kind func ≡ None }
     ensures { IfOk result (λ v. v ≡ functions.called (T.document tree.now) func args.now (record { row = node; position = position; size = size })) }
 {
     let value = match func {
@@ -53,7 +56,40 @@ pub fn call<T: Tree>(
         Func::Floor => Value::Num(numbers::floor(alloc, tree, args)?),
         Func::Ceiling => Value::Num(numbers::ceiling(alloc, tree, args)?),
         Func::Round => Value::Num(numbers::round(alloc, tree, args)?),
-        Func::Stored(kind) => Value::Bool(strings::stored(alloc, tree, args, kind)?),
+        Func::Stored(_) => unreachable!(),
     };
     Ok(value)
+}
+
+/// The kind of a stored test. The functions of XPath 1.0 have none.
+fn stored_kind(func: Func) -> Option<TestKind>
+    ensures { result ≡ stored_kind func }
+{
+    match func {
+        Func::Stored(kind) => Some(kind),
+        _ => None,
+    }
+}
+
+/// The value of a function, as `call` says, or of a stored test: what its kind answers for the string values of its two
+/// arguments.
+pub fn call_with<T: Tree, Q: Asks>(
+    alloc: Global,
+    tree: &T,
+    func: Func,
+    args: &Seq<Value>,
+    node: u32,
+    position: u32,
+    size: u32,
+    tests: &Q,
+) -> Result<Value, NoMemory>
+    requires row { node < length (T.document tree.now) }
+    requires rows { AreWithin (T.document tree.now) args.now }
+    requires kind { IsStored (Q.kinds tests.now) (stored_kind func) }
+    ensures { IfOk result (λ v. v ≡ functions.called (T.document tree.now) func args.now (record { row = node; position = position; size = size })) }
+{
+    match stored_kind(func) {
+        Some(kind) => Ok(Value::Bool(strings::stored(alloc, tree, args, kind, tests)?)),
+        None => call(alloc, tree, func, args, node, position, size),
+    }
 }

@@ -18,6 +18,6 @@ mod strings;
 mod tests;
 mod texts;
 
-pub use calls::call;
+pub use calls::{call, call_with};
 pub use comparisons::fits;
 pub use conversions::{number_of, text_of, truth_of};

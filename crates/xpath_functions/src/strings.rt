@@ -1,5 +1,6 @@
 //! The functions on strings, XPath 1.0, section 4.2.
 ghost use Rattle.std.specs.Prelude.{◌≡◌, ◌<◌, ◌∷◌, [], length, pos, encode_utf8_all, IfOk};
+ghost use Rattle.test_registry.specs.Kinds.{HasKind};
 ghost use Rattle.test_registry.specs.Meets.{meets};
 ghost use Rattle.xpath_values.specs.declared.value.Value.TheVariants.{Nodes};
 ghost use Rattle.xpath_values.specs.Numbers as numbers;
@@ -15,7 +16,7 @@ use crate::parts::{after, before, begins, includes, part_from, part_of};
 use crate::texts::{nothing, text_at, text_or_row};
 use doc_model::Tree;
 use std::alloc::Global;
-use test_registry::{TestKind, answer};
+use test_registry::{Asks, TestKind};
 use text_base::{NoMemory, Seq, Txt, char_len};
 use xpath_values::{Value, XNum};
 
@@ -51,19 +52,21 @@ pub fn starts_with<T: Tree>(alloc: Global, tree: &T, args: &Seq<Value>) -> Resul
     Ok(begins(text.as_str(), start.as_str()))
 }
 
-/// A stored test, as its kind says.
-pub fn stored<T: Tree>(
+/// What the first stored test of the kind answers for two strings.
+pub fn stored<T: Tree, Q: Asks>(
     alloc: Global,
     tree: &T,
     args: &Seq<Value>,
     kind: TestKind,
+    tests: &Q,
 ) -> Result<bool, NoMemory>
-    requires { AreWithin (T.document tree.now) args.now }
+    requires rows { AreWithin (T.document tree.now) args.now }
+    requires kind { HasKind kind (Q.kinds tests.now) }
     ensures { IfOk result (λ r. r ≡ meets kind (encode_utf8_all (spec.text_of (T.document tree.now) (arg 0 args.now (Nodes [])))) (encode_utf8_all (spec.text_of (T.document tree.now) (arg 1 args.now (Nodes []))))) }
 {
     let text = text_at(alloc, tree, args, 0)?;
     let other = text_at(alloc, tree, args, 1)?;
-    Ok(answer(kind, text.as_str(), other.as_str()))
+    Ok(tests.asked(kind, text.as_str(), other.as_str()))
 }
 
 /// `contains`

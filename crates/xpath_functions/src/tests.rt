@@ -1,6 +1,7 @@
-ghost use Rattle.std.specs.Prelude.{◌≡◌, ◌<◌, IsTrue};
+ghost use Rattle.std.specs.Prelude.{◌≡◌, ◌<◌, None, IsTrue};
 ghost use Rattle.std.specs.List.{All};
 ghost use Rattle.doc_model.specs.Growing.{fresh};
+ghost use Rattle.xpath_parser.specs.Asking.{stored_kind};
 ghost use Rattle.xpath_parser.specs.Conversions.{rows_of};
 
 use crate::{call, fits, number_of, text_of, truth_of};
@@ -92,6 +93,15 @@ fn shown(alloc: Global, tree: &VecTree, value: &Value) -> Result<String, NoMemor
     Ok(String::from_str(alloc, text.as_str())?)
 }
 
+fn is_own(func: Func) -> bool
+    ensures { IsTrue result → stored_kind func ≡ None }
+{
+    match func {
+        Func::Stored(_) => false,
+        _ => true,
+    }
+}
+
 /// What a function gives at a row, at position 2 of 5.
 fn called(
     alloc: Global,
@@ -101,7 +111,7 @@ fn called(
     node: u32,
 ) -> Result<String, NoMemory> {
     let args = values(alloc, args)?;
-    if node >= tree.len() || !are_within(tree.len(), args.as_slice()) {
+    if node >= tree.len() || !are_within(tree.len(), args.as_slice()) || !is_own(func) {
         return Err(NoMemory);
     }
     let value = call(alloc, tree, func, &args, node, 2, 5)?;
