@@ -1,3 +1,4 @@
+pub mod Asks
 pub mod Counting
 pub mod Covering
 pub mod Deep

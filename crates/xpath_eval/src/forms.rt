@@ -4,14 +4,19 @@ ghost use Rattle.doc_model.specs.Axes.{axis_list};
 ghost use Rattle.xpath_values.specs.Numbers as numbers;
 ghost use Rattle.xpath_parser.specs.Conversions.{rows_of};
 ghost use Rattle.xpath_parser.specs.Denote as spec;
-ghost use Rattle.xpath_functions.specs.Rows.{IsWithin};
+ghost use Rattle.xpath_parser.specs.Functions as functions;
+ghost use Rattle.xpath_parser.specs.Asking.{stored_kind, IsStored};
+ghost use Rattle.xpath_functions.specs.Rows.{AreWithin, IsWithin};
+ghost use Rattle.xpath_eval.specs.Places.{context};
 ghost use Rattle.xpath_eval.specs.Rows.{AreRows, AllBelow};
 
+use crate::place::Place;
 use doc_model::{Axes, Axis, NodeTest, Tree};
 use std::alloc::Global;
+use test_registry::Asks;
 use text_base::{NoMemory, Seq};
-use xpath_functions::{fits, number_of, truth_of};
-use xpath_parser::Infix;
+use xpath_functions::{call_with, fits, number_of, truth_of};
+use xpath_parser::{Func, Infix};
 use xpath_values::{Value, XNum, add, mul, neg, rem, sub, whole};
 
 /// Whether a predicate of this value keeps the row at this position, XPath 1.0, section 2.4: a number where it is the
@@ -112,4 +117,30 @@ pub fn put_if(rows: &mut Vec<u32>, end: usize, row: u32, wanted: bool) -> usize
         return end + 1;
     }
     end
+}
+
+/// The value of a function or of a stored test at a place.
+pub fn called<S: Axes, Q: Asks>(
+    alloc: Global,
+    source: &S,
+    func: Func,
+    args: &Seq<Value>,
+    place: Place,
+    tests: &Q,
+) -> Result<Value, NoMemory>
+    requires row { place.row < length (S.document source.now) }
+    requires rows { AreWithin (S.document source.now) args.now }
+    requires kind { IsStored (Q.kinds tests.now) (stored_kind func) }
+    ensures { IfOk result (λ v. v ≡ functions.called (S.document source.now) func args.now (context place)) }
+{
+    call_with(
+        alloc,
+        source,
+        func,
+        args,
+        place.row,
+        place.position,
+        place.size,
+        tests,
+    )
 }

@@ -17,6 +17,7 @@
 //! - A number that is written out as a predicate is looked up; where it is 1 and the first predicate, the walk ends at the
 //!   first row, but on the preceding axes. Whether one step without predicates gives a row is asked with no list. `count` of one step without predicates makes no list.
 //! - `or` and `and` stop at the first operand that decides.
+//! - A call of a stored test asks it once, on the string values of its two arguments.
 #![tactic(auto)]
 
 mod axis_steps;
@@ -27,11 +28,12 @@ mod evaluation;
 mod forms;
 mod ordering;
 mod place;
+mod predicates;
 mod step_rows;
 mod tests_of_rows;
 mod top;
 
-pub use top::eval;
+pub use top::{eval, eval_with};
 
 #[cfg(test)]
 mod tests;

@@ -1,6 +1,6 @@
 use Rattle.std.proofs.Common.{rules, arith, ◌≡◌, refl, sym, ◌∙◌, ap, subst, ℕ, ◌+◌, ◌<◌, ◌≤◌, ◌||◌, List, [], ◌∷◌, ◌++◌, length, take, drop, map, get_or, append_assoc}
 use Rattle.std.specs.Prelude.{IfOk}
-use Rattle.std.specs.List.{list_any, list_all}
+use Rattle.std.specs.List.{All, list_any, list_all}
 use Rattle.std.proofs.lemmas.List.{take_more}
 use Rattle.std.proofs.lemmas.List.Elements.{All-append, All-cons, All-nil}
 use Rattle.doc_model.specs.RowLists.{has, Run}
@@ -9,11 +9,11 @@ use Rattle.doc_model.specs.declared.Axis.TheVariants as axis
 use Rattle.xpath_values.specs.declared.value.Value.{Value}
 use Rattle.xpath_values.specs.declared.value.Value.TheVariants.{Nodes, Num, Str, Bool as Truth}
 use Rattle.xpath_parser.specs.declared.expression.Expr.{Expr}
-use Rattle.xpath_parser.specs.declared.expression.Operand.{Operand}
+use Rattle.xpath_parser.specs.declared.expression.Operand.{Operand, out-Operand}
 use Rattle.xpath_parser.specs.declared.expression.Step.{Step, out-Step}
 use Rattle.xpath_parser.specs.Conversions as conversions
 use Rattle.xpath_parser.specs.Conversions.{rows_of}
-use Rattle.xpath_parser.specs.Functions.{Context, called}
+use Rattle.xpath_parser.specs.Functions.{called}
 use Rattle.xpath_parser.specs.Denote as spec
 use Rattle.xpath_parser.proofs.Equations as eqs
 use Rattle.xpath_functions.specs.Rows.{AreWithin, IsWithin}
@@ -22,18 +22,24 @@ use Rattle.xpath_eval.specs.Rows.{AreRows, AllBelow}
 use Rattle.xpath_values.specs.Numbers.{whole}
 use Rattle.xpath_eval.specs.Steps.{IsLoneStep, IsTestedChild}
 use Rattle.xpath_eval.specs.Tests.{AreTests}
+use Rattle.xpath_parser.specs.Asking.{AsksOnly, OperandAsks, StepAsks}
+use Rattle.xpath_parser.specs.declared.expression.Expr as expr
+use Rattle.xpath_parser.specs.declared.expression.Operand as operand
+use Rattle.xpath_parser.specs.declared.expression.Start as start
+use Rattle.xpath_parser.specs.declared.expression.Step as step
+use Rattle.xpath_eval.proofs.Asks as asks
 use Rattle.xpath_eval.proofs.Counting as counting
 use Rattle.xpath_eval.proofs.Deep as deep
 use Rattle.xpath_eval.proofs.Filtering as filtering
 use Rattle.xpath_eval.proofs.Gathers as gathers
 use Rattle.xpath_eval.proofs.Kept as kept
 use Rattle.xpath_eval.proofs.Lists as lists
-use Rattle.xpath_eval.proofs.evaluation.+evaluation.Goals as goal
+use Rattle.xpath_eval.proofs.+evaluation.Goals as goal
 
 -- ---- loops
 
-pub from_each-loop-x-preserved : goal.from_each-loop-x-preserved
-from_each-loop-x-preserved g t c =
+pub evaluation::from_each-loop-x-preserved : goal.evaluation::from_each-loop-x-preserved
+evaluation::from_each-loop-x-preserved g t c =
     let doc = g.S.Tree.document c.args.source.now in
     let w = spec.walk_of doc c.args.step.now in
     let xs = c.args.rows.now in
@@ -43,14 +49,14 @@ from_each-loop-x-preserved g t c =
     (gathers.gathered_more (length doc) (take i xs) x w c.loop-x.found.items c.in_ok-found.found.items c.loop-x.invariant (kept.walk_below doc c.args.step.now x)
     (λ y. c.in_ok-found.ensures y ∙ ap (λ v. has y c.loop-x.found.items || has y v) c.in_ok-walked.ensures))
 
-pub from_each-returns : goal.from_each-returns
-from_each-returns g t c =
+pub evaluation::from_each-returns : goal.evaluation::from_each-returns
+evaluation::from_each-returns g t c =
     let doc = g.S.Tree.document c.args.source.now in
     c.from_vec.ensures ∙ gathers.gathered_whole doc c.args.rows.now c.loop-x.x-index (spec.walk_of doc c.args.step.now) c.loop-x.found.items c.ordered.result.items
     c.loop-x.invariant c.loop-x-test.false c.ordered.ensures.same c.ordered.ensures.order
 
-pub union-loop-e-preserved : goal.union-loop-e-preserved
-union-loop-e-preserved g t c =
+pub evaluation::union-loop-e-preserved : goal.evaluation::union-loop-e-preserved
+evaluation::union-loop-e-preserved g t c =
     let doc = g.S.Tree.document c.args.source.now in
     let w : Expr → List ℕ = λ x. rows_of (spec.denote doc x (context c.args.place)) in
     let es = c.args.es.now in
@@ -62,15 +68,15 @@ union-loop-e-preserved g t c =
     (gathers.gathered_more (length doc) (take i es) x w c.loop-e.found.items c.in_ok-found.found.items c.loop-e.invariant (lists.run_below 0 (length doc) (w x) run)
     (λ y. c.in_ok-found.ensures y ∙ ap (λ v. has y c.loop-e.found.items || has y v) more))
 
-pub union-returns : goal.union-returns
-union-returns g t c =
+pub evaluation::union-returns : goal.evaluation::union-returns
+evaluation::union-returns g t c =
     let doc = g.S.Tree.document c.args.source.now in
     let w : Expr → List ℕ = λ x. rows_of (spec.denote doc x (context c.args.place)) in
     c.from_vec.ensures ∙ gathers.gathered_whole doc c.args.es.now c.loop-e.e-index w c.loop-e.found.items c.ordered-rows.result.items
     c.loop-e.invariant c.loop-e-test.false c.ordered-rows.ensures.same c.ordered-rows.ensures.order
 
-pub filtered-loop-predicate-preserved : goal.filtered-loop-predicate-preserved
-filtered-loop-predicate-preserved g t c =
+pub predicates::filtered-loop-predicate-preserved : goal.predicates::filtered-loop-predicate-preserved
+predicates::filtered-loop-predicate-preserved g t c =
     let doc = g.S.Tree.document c.args.source.now in
     let ps = c.args.predicates.now in
     let i = c.loop-predicate.predicate-index in
@@ -86,8 +92,8 @@ filtered-loop-predicate-preserved g t c =
       few = subst (λ v. length v ≤ length doc) (sym is) (omega (arith, few, fewer));
     }
 
-pub path-loop-i-preserved-then-is_tested_child : goal.path-loop-i-preserved-then-is_tested_child
-path-loop-i-preserved-then-is_tested_child g t c =
+pub evaluation::path-loop-i-preserved-then-is_tested_child : goal.evaluation::path-loop-i-preserved-then-is_tested_child
+evaluation::path-loop-i-preserved-then-is_tested_child g t c =
     let doc = g.S.Tree.document c.args.source.now in
     let ss = c.args.steps.now in
     let i = c.loop-i.i in
@@ -110,8 +116,8 @@ path-loop-i-preserved-then-is_tested_child g t c =
       below = lists.run_below 0 (length doc) c.in_ok-rows.rows run;
     }
 
-pub path-loop-i-preserved : goal.path-loop-i-preserved
-path-loop-i-preserved g t c =
+pub evaluation::path-loop-i-preserved : goal.evaluation::path-loop-i-preserved
+evaluation::path-loop-i-preserved g t c =
     let doc = g.S.Tree.document c.args.source.now in
     let ss = c.args.steps.now in
     let i = c.loop-i.i in
@@ -125,11 +131,11 @@ path-loop-i-preserved g t c =
       below = lists.run_below 0 (length doc) c.in_ok-rows-2.rows run;
     }
 
-pub path-loop-i-init : goal.path-loop-i-init
-path-loop-i-init g t c = let doc = g.S.Tree.document c.args.source.now in record { path = refl; rows = c.requires; below = lists.run_below 0 (length doc) c.args.start c.requires }
+pub evaluation::path-loop-i-init : goal.evaluation::path-loop-i-init
+evaluation::path-loop-i-init g t c = let doc = g.S.Tree.document c.args.source.now in record { path = refl; rows = c.requires.rows; below = lists.run_below 0 (length doc) c.args.start c.requires.rows }
 
-pub values-loop-e-preserved : goal.values-loop-e-preserved
-values-loop-e-preserved g t c =
+pub evaluation::values-loop-e-preserved : goal.evaluation::values-loop-e-preserved
+evaluation::values-loop-e-preserved g t c =
     let doc = g.S.Tree.document c.args.source.now in
     let value : Expr → Value = λ e. spec.denote doc e (context c.args.place) in
     let es = c.args.es.now in
@@ -145,40 +151,40 @@ values-loop-e-preserved g t c =
           (All-cons (IsWithin doc) v [] (lists.run_below 0 (length doc) (rows_of v) c.in_ok-value_at.ensures.rows) (All-nil (IsWithin doc))));
     }
 
-pub joined-applied-requires-clause-left : goal.joined-applied-requires-clause-left
-joined-applied-requires-clause-left g t c = lists.run_below 0 (length (g.S.Tree.document c.args.source.now)) (rows_of c.loop-operand.value) c.loop-operand.invariant.rows
+pub evaluation::joined-applied-requires-clause-left : goal.evaluation::joined-applied-requires-clause-left
+evaluation::joined-applied-requires-clause-left g t c = lists.run_below 0 (length (g.S.Tree.document c.args.source.now)) (rows_of c.loop-operand.value) c.loop-operand.invariant.rows
 
-pub joined-applied-requires-clause-right : goal.joined-applied-requires-clause-right
-joined-applied-requires-clause-right g t c = lists.run_below 0 (length (g.S.Tree.document c.args.source.now)) (rows_of c.in_ok-right.right) c.in_ok-right.ensures.rows
+pub evaluation::joined-applied-requires-clause-right : goal.evaluation::joined-applied-requires-clause-right
+evaluation::joined-applied-requires-clause-right g t c = lists.run_below 0 (length (g.S.Tree.document c.args.source.now)) (rows_of c.in_ok-right.right) c.in_ok-right.ensures.rows
 
 -- ---- what calls require
 
-pub walk-returns : goal.walk-returns
-walk-returns g t c =
+pub evaluation::walk-returns : goal.evaluation::walk-returns
+evaluation::walk-returns g t c =
     let doc = g.S.Tree.document c.args.source.now in
     let s = c.args.step.now in
     c.in_ok-filtered.ensures ∙ ap (λ ps. spec.kept (map (spec.denote doc) ps) c.in_ok-rows.rows.items) c.as_slice.ensures
     ∙ c.in_ok-rows.ensures.kept
 
-pub value_at-number_of-requires : goal.value_at-number_of-requires
-value_at-number_of-requires g t c = lists.run_below 0 (length (g.S.Tree.document c.args.source.now)) (rows_of c.in_ok-value-in-Minus.value) c.in_ok-value-in-Minus.ensures.rows
+pub evaluation::value_at-number_of-requires : goal.evaluation::value_at-number_of-requires
+evaluation::value_at-number_of-requires g t c = lists.run_below 0 (length (g.S.Tree.document c.args.source.now)) (rows_of c.in_ok-value-in-Minus.value) c.in_ok-value-in-Minus.ensures.rows
 
 -- ---- where a path starts
 
-pub started-returns-in_ok-from_slice-in-Here-clause-rows : goal.started-returns-in_ok-from_slice-in-Here-clause-rows
-started-returns-in_ok-from_slice-in-Here-clause-rows g t c =
+pub evaluation::started-returns-in_ok-from_slice-in-Here-clause-rows : goal.evaluation::started-returns-in_ok-from_slice-in-Here-clause-rows
+evaluation::started-returns-in_ok-from_slice-in-Here-clause-rows g t c =
     let doc = g.S.Tree.document c.args.source.now in
     let at = context c.args.place in
     c.in_ok-from_slice-in-Here.ensures ∙ sym (eqs.at_here doc at) ∙ sym (ap (λ s. spec.start_of doc s at) c.in-Here.is)
 
-pub started-returns-in_ok-from_slice-in-Root-clause-rows : goal.started-returns-in_ok-from_slice-in-Root-clause-rows
-started-returns-in_ok-from_slice-in-Root-clause-rows g t c =
+pub evaluation::started-returns-in_ok-from_slice-in-Root-clause-rows : goal.evaluation::started-returns-in_ok-from_slice-in-Root-clause-rows
+evaluation::started-returns-in_ok-from_slice-in-Root-clause-rows g t c =
     let doc = g.S.Tree.document c.args.source.now in
     let at = context c.args.place in
     c.in_ok-from_slice-in-Root.ensures ∙ sym (eqs.at_root doc at) ∙ sym (ap (λ s. spec.start_of doc s at) c.in-Root.is)
 
-pub started-returns-in_ok-value-in-From-clause-rows : goal.started-returns-in_ok-value-in-From-clause-rows
-started-returns-in_ok-value-in-From-clause-rows g t c =
+pub evaluation::started-returns-in_ok-value-in-From-clause-rows : goal.evaluation::started-returns-in_ok-value-in-From-clause-rows
+evaluation::started-returns-in_ok-value-in-From-clause-rows g t c =
     let doc = g.S.Tree.document c.args.source.now in
     let at = context c.args.place in
     c.nodes.ensures ∙ ap rows_of (c.in_ok-value-in-From.ensures.value ∙ ap (λ x. spec.denote doc x at) c.get.ensures)
@@ -186,22 +192,22 @@ started-returns-in_ok-value-in-From-clause-rows g t c =
 
 -- ---- each form
 
-pub value_at-returns-in_ok-any-in-Or-clause-value : goal.value_at-returns-in_ok-any-in-Or-clause-value
-value_at-returns-in_ok-any-in-Or-clause-value g t c =
+pub evaluation::value_at-returns-in_ok-any-in-Or-clause-value : goal.evaluation::value_at-returns-in_ok-any-in-Or-clause-value
+evaluation::value_at-returns-in_ok-any-in-Or-clause-value g t c =
     let doc = g.S.Tree.document c.args.source.now in
     let at = context c.args.place in
     ap Truth (c.in_ok-any-in-Or.ensures ∙ ap (list_any (λ x. conversions.truth_of (spec.denote doc x at))) c.as_slice.ensures)
     ∙ sym (eqs.at_or doc c.in-Or.es at) ∙ sym (ap (λ x. spec.denote doc x at) c.in-Or.is)
 
-pub value_at-returns-in_ok-all-in-And-clause-value : goal.value_at-returns-in_ok-all-in-And-clause-value
-value_at-returns-in_ok-all-in-And-clause-value g t c =
+pub evaluation::value_at-returns-in_ok-all-in-And-clause-value : goal.evaluation::value_at-returns-in_ok-all-in-And-clause-value
+evaluation::value_at-returns-in_ok-all-in-And-clause-value g t c =
     let doc = g.S.Tree.document c.args.source.now in
     let at = context c.args.place in
     ap Truth (c.in_ok-all-in-And.ensures ∙ ap (list_all (λ x. conversions.truth_of (spec.denote doc x at))) c.as_slice-in-And.ensures)
     ∙ sym (eqs.at_and doc c.in-And.es at) ∙ sym (ap (λ x. spec.denote doc x at) c.in-And.is)
 
-pub value_at-returns-in_ok-value-in-Joined-clause-value : goal.value_at-returns-in_ok-value-in-Joined-clause-value
-value_at-returns-in_ok-value-in-Joined-clause-value g t c =
+pub evaluation::value_at-returns-in_ok-value-in-Joined-clause-value : goal.evaluation::value_at-returns-in_ok-value-in-Joined-clause-value
+evaluation::value_at-returns-in_ok-value-in-Joined-clause-value g t c =
     let doc = g.S.Tree.document c.args.source.now in
     let at = context c.args.place in
     subst (λ w. IfOk c.joined.result (λ v. v ≡ w))
@@ -210,91 +216,91 @@ value_at-returns-in_ok-value-in-Joined-clause-value g t c =
     ∙ sym (eqs.at_joined doc c.in-Joined.first c.in-Joined.operands at) ∙ sym (ap (λ x. spec.denote doc x at) c.in-Joined.is))
     c.joined.ensures.value
 
-pub value_at-returns-in_ok-number_of-in-Minus-clause-value : goal.value_at-returns-in_ok-number_of-in-Minus-clause-value
-value_at-returns-in_ok-number_of-in-Minus-clause-value g t c =
+pub evaluation::value_at-returns-in_ok-number_of-in-Minus-clause-value : goal.evaluation::value_at-returns-in_ok-number_of-in-Minus-clause-value
+evaluation::value_at-returns-in_ok-number_of-in-Minus-clause-value g t c =
     let doc = g.S.Tree.document c.args.source.now in
     let at = context c.args.place in
     ap Num (c.signed.ensures ∙ ap (spec.signed c.in-Minus.signs)
     (c.in_ok-number_of-in-Minus.ensures ∙ ap (conversions.number_of doc) (c.in_ok-value-in-Minus.ensures.value ∙ ap (λ x. spec.denote doc x at) c.get-in-Minus.ensures)))
     ∙ sym (eqs.at_minus doc c.in-Minus.signs c.in-Minus.operand at) ∙ sym (ap (λ x. spec.denote doc x at) c.in-Minus.is)
 
-pub value_at-returns-in_ok-union-in-Union-clause-value : goal.value_at-returns-in_ok-union-in-Union-clause-value
-value_at-returns-in_ok-union-in-Union-clause-value g t c =
+pub evaluation::value_at-returns-in_ok-union-in-Union-clause-value : goal.evaluation::value_at-returns-in_ok-union-in-Union-clause-value
+evaluation::value_at-returns-in_ok-union-in-Union-clause-value g t c =
     let doc = g.S.Tree.document c.args.source.now in
     let at = context c.args.place in
     let w : Expr → List ℕ = λ x. rows_of (spec.denote doc x at) in
     ap Nodes (c.in_ok-union-in-Union.ensures ∙ ap (λ es. spec.rows_in doc es w) c.as_slice-in-Union.ensures)
     ∙ sym (eqs.at_union doc c.in-Union.es at) ∙ sym (ap (λ x. spec.denote doc x at) c.in-Union.is)
 
-pub value_at-returns-in_ok-union-in-Union-clause-rows : goal.value_at-returns-in_ok-union-in-Union-clause-rows
-value_at-returns-in_ok-union-in-Union-clause-rows g t c =
+pub evaluation::value_at-returns-in_ok-union-in-Union-clause-rows : goal.evaluation::value_at-returns-in_ok-union-in-Union-clause-rows
+evaluation::value_at-returns-in_ok-union-in-Union-clause-rows g t c =
     let doc = g.S.Tree.document c.args.source.now in
     let at = context c.args.place in
     let w : Expr → List ℕ = λ x. rows_of (spec.denote doc x at) in
     subst (AreRows doc) (sym c.in_ok-union-in-Union.ensures) (gathers.rows_in_run doc c.as_slice-in-Union.result.now w)
 
-pub value_at-returns-in_ok-path-in-Path-clause-value : goal.value_at-returns-in_ok-path-in-Path-clause-value
-value_at-returns-in_ok-path-in-Path-clause-value g t c =
+pub evaluation::value_at-returns-in_ok-path-in-Path-clause-value : goal.evaluation::value_at-returns-in_ok-path-in-Path-clause-value
+evaluation::value_at-returns-in_ok-path-in-Path-clause-value g t c =
     let doc = g.S.Tree.document c.args.source.now in
     let at = context c.args.place in
     ap Nodes (c.in_ok-path-in-Path.ensures ∙ ap (λ r. spec.path doc r (map (spec.walk_of doc) c.as_slice-in-Path.result.now)) c.in_ok-rows-in-Path.ensures.rows
     ∙ ap (λ ss. spec.path doc (spec.start_of doc c.in-Path.start at) (map (spec.walk_of doc) ss)) c.as_slice-in-Path.ensures)
     ∙ sym (eqs.at_path doc c.in-Path.start c.in-Path.steps at) ∙ sym (ap (λ x. spec.denote doc x at) c.in-Path.is)
 
-pub value_at-returns-in_ok-path-in-Path-clause-rows : goal.value_at-returns-in_ok-path-in-Path-clause-rows
-value_at-returns-in_ok-path-in-Path-clause-rows g t c =
+pub evaluation::value_at-returns-in_ok-path-in-Path-clause-rows : goal.evaluation::value_at-returns-in_ok-path-in-Path-clause-rows
+evaluation::value_at-returns-in_ok-path-in-Path-clause-rows g t c =
     let doc = g.S.Tree.document c.args.source.now in
     let at = context c.args.place in
     subst (AreRows doc) (sym c.in_ok-path-in-Path.ensures)
     (gathers.path_run doc c.in_ok-rows-in-Path.rows (map (spec.walk_of doc) c.as_slice-in-Path.result.now) c.in_ok-rows-in-Path.ensures.order)
 
-pub value_at-returns-in_ok-filter-in-Filter-clause-value : goal.value_at-returns-in_ok-filter-in-Filter-clause-value
-value_at-returns-in_ok-filter-in-Filter-clause-value g t c =
+pub evaluation::value_at-returns-in_ok-filter-in-Filter-clause-value : goal.evaluation::value_at-returns-in_ok-filter-in-Filter-clause-value
+evaluation::value_at-returns-in_ok-filter-in-Filter-clause-value g t c =
     let doc = g.S.Tree.document c.args.source.now in
     let at = context c.args.place in
     ap Nodes (c.in_ok-filter-in-Filter.ensures ∙ ap (λ ps. spec.kept (map (spec.denote doc) ps) (rows_of c.in_ok-value-in-Filter.value)) c.as_slice-in-Filter.ensures
     ∙ ap (λ v. spec.kept (map (spec.denote doc) c.in-Filter.predicates) (rows_of v)) (c.in_ok-value-in-Filter.ensures.value ∙ ap (λ x. spec.denote doc x at) c.get-in-Filter.ensures))
     ∙ sym (eqs.at_filter doc c.in-Filter.filtered c.in-Filter.predicates at) ∙ sym (ap (λ x. spec.denote doc x at) c.in-Filter.is)
 
-pub value_at-returns-in_ok-filter-in-Filter-clause-rows : goal.value_at-returns-in_ok-filter-in-Filter-clause-rows
-value_at-returns-in_ok-filter-in-Filter-clause-rows g t c =
+pub evaluation::value_at-returns-in_ok-filter-in-Filter-clause-rows : goal.evaluation::value_at-returns-in_ok-filter-in-Filter-clause-rows
+evaluation::value_at-returns-in_ok-filter-in-Filter-clause-rows g t c =
     let doc = g.S.Tree.document c.args.source.now in
     let at = context c.args.place in
     subst (AreRows doc) (sym c.in_ok-filter-in-Filter.ensures)
     (kept.kept_run (map (spec.denote doc) c.as_slice-in-Filter.result.now) 0 (length doc) (rows_of c.in_ok-value-in-Filter.value) c.in_ok-value-in-Filter.ensures.rows)
 
-pub value_at-returns-in_ok-of-in-Literal-clause-value : goal.value_at-returns-in_ok-of-in-Literal-clause-value
-value_at-returns-in_ok-of-in-Literal-clause-value g t c =
+pub evaluation::value_at-returns-in_ok-of-in-Literal-clause-value : goal.evaluation::value_at-returns-in_ok-of-in-Literal-clause-value
+evaluation::value_at-returns-in_ok-of-in-Literal-clause-value g t c =
     let doc = g.S.Tree.document c.args.source.now in
     let at = context c.args.place in
     ap Str (c.in_ok-of-in-Literal.ensures ∙ c.as_str.ensures.chars) ∙ sym (eqs.at_literal doc c.in-Literal.text at) ∙ sym (ap (λ x. spec.denote doc x at) c.in-Literal.is)
 
-pub value_at-returns-in-Number-clause-value : goal.value_at-returns-in-Number-clause-value
-value_at-returns-in-Number-clause-value g t c =
+pub evaluation::value_at-returns-in-Number-clause-value : goal.evaluation::value_at-returns-in-Number-clause-value
+evaluation::value_at-returns-in-Number-clause-value g t c =
     let doc = g.S.Tree.document c.args.source.now in
     let at = context c.args.place in
     ap Num c.literal_number.ensures ∙ sym (eqs.at_number doc c.in-Number.n at) ∙ sym (ap (λ x. spec.denote doc x at) c.in-Number.is)
 
-pub value_at-returns-in_ok-args-in-Call-clause-value : goal.value_at-returns-in_ok-args-in-Call-clause-value
-value_at-returns-in_ok-args-in-Call-clause-value g t c =
+pub evaluation::value_at-returns-in_ok-args-in-Call-clause-value : goal.evaluation::value_at-returns-in_ok-args-in-Call-clause-value
+evaluation::value_at-returns-in_ok-args-in-Call-clause-value g t c =
     let doc = g.S.Tree.document c.args.source.now in
     let at = context c.args.place in
-    subst (λ w. IfOk c.call.result (λ v. v ≡ w))
+    subst (λ w. IfOk c.called.result (λ v. v ≡ w))
     (ap (λ vs. called doc c.in-Call.func vs at) (c.in_ok-args-in-Call.ensures.values ∙ ap (map (λ x. spec.denote doc x at)) c.as_slice-in-Call.ensures)
     ∙ sym (eqs.at_call doc c.in-Call.func c.in-Call.es at) ∙ sym (ap (λ x. spec.denote doc x at) c.in-Call.is))
-    c.call.ensures
+    c.called.ensures
 
-pub value_at-returns-in_ok-args-in-Call-clause-rows : goal.value_at-returns-in_ok-args-in-Call-clause-rows
-value_at-returns-in_ok-args-in-Call-clause-rows g t c =
+pub evaluation::value_at-returns-in_ok-args-in-Call-clause-rows : goal.evaluation::value_at-returns-in_ok-args-in-Call-clause-rows
+evaluation::value_at-returns-in_ok-args-in-Call-clause-rows g t c =
     let doc = g.S.Tree.document c.args.source.now in
     let at = context c.args.place in
-    lists.if_ok_from c.call.result (λ v. v ≡ called doc c.in-Call.func c.in_ok-args-in-Call.args at) (λ v. AreRows doc (rows_of v))
-    (λ v is. subst (λ u. AreRows doc (rows_of u)) (sym is) (gathers.called_run doc c.in-Call.func c.in_ok-args-in-Call.args at)) c.call.ensures
+    lists.if_ok_from c.called.result (λ v. v ≡ called doc c.in-Call.func c.in_ok-args-in-Call.args at) (λ v. AreRows doc (rows_of v))
+    (λ v is. subst (λ u. AreRows doc (rows_of u)) (sym is) (gathers.called_run doc c.in-Call.func c.in_ok-args-in-Call.args at)) c.called.ensures
 
 -- ---- shorter ways
 
-pub after-returns-then-are_tests : goal.after-returns-then-are_tests
-after-returns-then-are_tests g t c =
+pub evaluation::after-returns-then-are_tests : goal.evaluation::after-returns-then-are_tests
+evaluation::after-returns-then-are_tests g t c =
     let doc = g.S.Tree.document c.args.source.now in
     let s = c.args.step.now in
     c.from_vec.ensures ∙ c.in_ok-filtered.ensures
@@ -302,15 +308,15 @@ after-returns-then-are_tests g t c =
     ∙ ap (spec.kept (map (spec.denote doc) (out-Step s).predicates)) c.in_ok-found.ensures.rows
     ∙ filtering.tested_after doc s c.args.rows.now (subst AreTests c.as_slice.ensures (c.are_tests.ensures c.if-are_tests.true))
 
-pub kept-returns-in-Number : goal.kept-returns-in-Number
-kept-returns-in-Number g t c =
+pub predicates::kept-returns-in-Number : goal.predicates::kept-returns-in-Number
+predicates::kept-returns-in-Number g t c =
     let doc = g.S.Tree.document c.args.source.now in
     let rows = c.args.rows.now.items in
     c.only.ensures ∙ kept.kept_from_same (λ at. Num (whole c.in-Number.n)) (spec.denote doc c.args.predicate.now) (λ at. sym (eqs.at_number doc c.in-Number.n at) ∙ sym (ap (λ x. spec.denote doc x at) c.in-Number.is))
     (length rows) 1 rows
 
-pub value_at-returns-in-Some-clause-value : goal.value_at-returns-in-Some-clause-value
-value_at-returns-in-Some-clause-value g t c =
+pub evaluation::value_at-returns-in-Some-clause-value : goal.evaluation::value_at-returns-in-Some-clause-value
+evaluation::value_at-returns-in-Some-clause-value g t c =
     let doc = g.S.Tree.document c.args.source.now in
     let at = context c.args.place in
     ap Num c.axis_number.ensures
@@ -318,7 +324,128 @@ value_at-returns-in-Some-clause-value g t c =
     ∙ sym (ap (λ f. called doc f (map (λ x. spec.denote doc x at) c.in-Call.es) at) (c.is_count.ensures c.if-is_count.true))
     ∙ sym (eqs.at_call doc c.in-Call.func c.in-Call.es at) ∙ sym (ap (λ x. spec.denote doc x at) c.in-Call.is)
 
-pub holds-returns-in-Some : goal.holds-returns-in-Some
-holds-returns-in-Some g t c =
+pub predicates::holds-returns-in-Some : goal.predicates::holds-returns-in-Some
+predicates::holds-returns-in-Some g t c =
     let doc = g.S.Tree.document c.args.source.now in
     c.axis_any.ensures ∙ counting.held doc c.args.predicate.now c.in-Some.step.now (context c.args.place) c.args.place.position c.in-Some.ensures
+
+-- ---- the parts ask no more than the whole
+
+pub evaluation::all-value_at-requires : goal.evaluation::all-value_at-requires
+evaluation::all-value_at-requires g t c =
+    let part = asks.at_one (AsksOnly (g.Q.Asks.kinds c.args.tests.now)) c.args.es.now c.loop-e.e-index c.e-item.result c.e-item.is c.loop-e-test.true c.requires.tests in
+    search (rules, expr.the_lemmas)
+
+pub evaluation::any-value_at-requires : goal.evaluation::any-value_at-requires
+evaluation::any-value_at-requires g t c =
+    let part = asks.at_one (AsksOnly (g.Q.Asks.kinds c.args.tests.now)) c.args.es.now c.loop-e.e-index c.e-item.result c.e-item.is c.loop-e-test.true c.requires.tests in
+    search (rules, expr.the_lemmas)
+
+pub evaluation::union-value_at-requires : goal.evaluation::union-value_at-requires
+evaluation::union-value_at-requires g t c =
+    let part = asks.at_one (AsksOnly (g.Q.Asks.kinds c.args.tests.now)) c.args.es.now c.loop-e.e-index c.e-item.result c.e-item.is c.loop-e-test.true c.requires.tests in
+    search (rules, expr.the_lemmas)
+
+pub evaluation::values-value_at-requires : goal.evaluation::values-value_at-requires
+evaluation::values-value_at-requires g t c =
+    let part = asks.at_one (AsksOnly (g.Q.Asks.kinds c.args.tests.now)) c.args.es.now c.loop-e.e-index c.e-item.result c.e-item.is c.loop-e-test.true c.requires.tests in
+    search (rules, expr.the_lemmas)
+
+pub evaluation::joined-value_at-requires : goal.evaluation::joined-value_at-requires
+evaluation::joined-value_at-requires g t c =
+    let part = asks.at_one (OperandAsks (g.Q.Asks.kinds c.args.tests.now)) c.args.operands.now c.loop-operand.operand-index c.operand-item.result c.operand-item.is c.loop-operand-test.true c.requires.tests in
+    search (rules, operand.the_lemmas)
+
+pub predicates::filtered-kept-requires : goal.predicates::filtered-kept-requires
+predicates::filtered-kept-requires g t c =
+    let part = asks.at_one (AsksOnly (g.Q.Asks.kinds c.args.tests.now)) c.args.predicates.now c.loop-predicate.predicate-index c.predicate-item.result c.predicate-item.is c.loop-predicate-test.true c.requires.tests in
+    search (rules, expr.the_lemmas)
+
+pub evaluation::path-all_below-requires : goal.evaluation::path-all_below-requires
+evaluation::path-all_below-requires g t c =
+    let part = asks.at_one (StepAsks (g.Q.Asks.kinds c.args.tests.now)) c.args.steps.now (c.loop-i.i + 1) c.index-steps-i-then-is_tested_child.result c.index-steps-i-then-is_tested_child.is c.if-i-steps.true c.requires.tests in
+    search (rules, step.the_lemmas)
+
+pub evaluation::path-after-requires : goal.evaluation::path-after-requires
+evaluation::path-after-requires g t c =
+    let part = asks.at_one (StepAsks (g.Q.Asks.kinds c.args.tests.now)) c.args.steps.now c.loop-i.i c.index-steps-i-else-i-steps.result c.index-steps-i-else-i-steps.is c.loop-i-test.true c.requires.tests in
+    search (rules, step.the_lemmas)
+
+pub evaluation::after-filtered-requires : goal.evaluation::after-filtered-requires
+evaluation::after-filtered-requires g t c =
+    let part = subst (All (AsksOnly (g.Q.Asks.kinds c.args.tests.now))) (sym c.as_slice-then-are_tests.ensures) c.requires.tests in
+    search (rules, step.the_lemmas)
+
+pub evaluation::all_below-filtered-requires : goal.evaluation::all_below-filtered-requires
+evaluation::all_below-filtered-requires g t c =
+    let part = subst (All (AsksOnly (g.Q.Asks.kinds c.args.tests.now))) (sym c.as_slice.ensures) c.requires.tests in
+    search (rules, step.the_lemmas)
+
+pub evaluation::walk-filtered-requires : goal.evaluation::walk-filtered-requires
+evaluation::walk-filtered-requires g t c =
+    let part = subst (All (AsksOnly (g.Q.Asks.kinds c.args.tests.now))) (sym c.as_slice.ensures) c.requires.tests in
+    search (rules, step.the_lemmas)
+
+pub evaluation::started-value_at-requires : goal.evaluation::started-value_at-requires
+evaluation::started-value_at-requires g t c =
+    let part = subst (AsksOnly (g.Q.Asks.kinds c.args.tests.now)) (sym c.get.ensures) (c.requires.tests c.in-From.e c.in-From.is) in
+    search (rules, start.the_lemmas)
+
+pub evaluation::value_at-any-requires : goal.evaluation::value_at-any-requires
+evaluation::value_at-any-requires g t c =
+    let part = asks.or_asks _ c.args.e.now c.requires.tests c.in-Or.es c.as_slice.result.now c.in-Or.is c.as_slice.ensures in
+    search (rules, expr.the_lemmas)
+
+pub evaluation::value_at-all-requires : goal.evaluation::value_at-all-requires
+evaluation::value_at-all-requires g t c =
+    let part = asks.and_asks _ c.args.e.now c.requires.tests c.in-And.es c.as_slice-in-And.result.now c.in-And.is c.as_slice-in-And.ensures in
+    search (rules, expr.the_lemmas)
+
+pub evaluation::value_at-value_at-requires : goal.evaluation::value_at-value_at-requires
+evaluation::value_at-value_at-requires g t c =
+    let part = asks.first_asks _ c.args.e.now c.requires.tests c.in-Joined.first c.get.result.now c.in-Joined.operands c.in-Joined.is c.get.ensures in
+    search (rules, expr.the_lemmas)
+
+pub evaluation::value_at-joined-requires : goal.evaluation::value_at-joined-requires
+evaluation::value_at-joined-requires g t c =
+    let part = asks.operands_ask _ c.args.e.now c.requires.tests c.in-Joined.first c.in-Joined.operands c.as_slice-in-Joined.result.now c.in-Joined.is c.as_slice-in-Joined.ensures in
+    search (rules, expr.the_lemmas)
+
+pub evaluation::value_at-value_at-requires-in-Minus : goal.evaluation::value_at-value_at-requires-in-Minus
+evaluation::value_at-value_at-requires-in-Minus g t c =
+    let part = asks.minus_asks _ c.args.e.now c.requires.tests c.in-Minus.signs c.in-Minus.operand c.get-in-Minus.result.now c.in-Minus.is c.get-in-Minus.ensures in
+    search (rules, expr.the_lemmas)
+
+pub evaluation::value_at-union-requires : goal.evaluation::value_at-union-requires
+evaluation::value_at-union-requires g t c =
+    let part = asks.union_asks _ c.args.e.now c.requires.tests c.in-Union.es c.as_slice-in-Union.result.now c.in-Union.is c.as_slice-in-Union.ensures in
+    search (rules, expr.the_lemmas)
+
+pub evaluation::value_at-started-requires : goal.evaluation::value_at-started-requires
+evaluation::value_at-started-requires g t c =
+    let part = asks.start_asks _ c.args.e.now c.requires.tests c.in-Path.start c.in-Path.steps c.in-Path.is in
+    search (rules, expr.the_lemmas)
+
+pub evaluation::value_at-path-requires : goal.evaluation::value_at-path-requires
+evaluation::value_at-path-requires g t c =
+    let part = asks.steps_ask _ c.args.e.now c.requires.tests c.in-Path.start c.in-Path.steps c.as_slice-in-Path.result.now c.in-Path.is c.as_slice-in-Path.ensures in
+    search (rules, expr.the_lemmas)
+
+pub evaluation::value_at-value_at-requires-in-Filter : goal.evaluation::value_at-value_at-requires-in-Filter
+evaluation::value_at-value_at-requires-in-Filter g t c =
+    let part = asks.filtered_asks _ c.args.e.now c.requires.tests c.in-Filter.filtered c.get-in-Filter.result.now c.in-Filter.predicates c.in-Filter.is c.get-in-Filter.ensures in
+    search (rules, expr.the_lemmas)
+
+pub evaluation::value_at-filter-requires : goal.evaluation::value_at-filter-requires
+evaluation::value_at-filter-requires g t c =
+    let part = asks.filters_ask _ c.args.e.now c.requires.tests c.in-Filter.filtered c.in-Filter.predicates c.as_slice-in-Filter.result.now c.in-Filter.is c.as_slice-in-Filter.ensures in
+    search (rules, expr.the_lemmas)
+
+pub evaluation::value_at-values-requires : goal.evaluation::value_at-values-requires
+evaluation::value_at-values-requires g t c =
+    let part = asks.args_ask _ c.args.e.now c.requires.tests c.in-Call.func c.in-Call.es c.as_slice-in-Call.result.now c.in-Call.is c.as_slice-in-Call.ensures in
+    search (rules, expr.the_lemmas)
+
+pub evaluation::value_at-called-requires-clause-kind : goal.evaluation::value_at-called-requires-clause-kind
+evaluation::value_at-called-requires-clause-kind g t c =
+    asks.called_asks (g.Q.Asks.kinds c.args.tests.now) c.args.e.now c.requires.tests c.in-Call.func c.in-Call.es c.in-Call.is
