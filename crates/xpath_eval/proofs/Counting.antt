@@ -1,29 +1,26 @@
 -- Steps and positions that are counted.
-use Rattle.std.proofs.Common.{◌≡◌, refl, sym, ◌∙◌, ap, subst, ℕ, zero, suc, ◌+◌, ◌-◌, ◌<◌, ◌≤◌, Bool, true, false, ◌||◌, ◌&&◌, eqb, cond, List, [], ◌∷◌, ◌++◌, length, map, get_or, take, set, ◌^◌, arith, ℤ, pos, inl, inr, ◌⊎◌}
+use Rattle.std.proofs.Common.{◌≡◌, refl, sym, ◌∙◌, ap, ℕ, suc, ◌+◌, ◌-◌, ◌<◌, ◌≤◌, Bool, true, false, ◌||◌, eqb, cond, List, [], ◌∷◌, length, map, get_or, take, set, ◌^◌, arith, ℤ, pos, inl, inr}
 use Rattle.std.specs.Prelude.{filter, reverse, ◌≢◌, unsigned_abs, nat_lt, Some, None, slice_get}
 use Rattle.std.specs.List.{range_with_len}
 use Rattle.std.specs.Ordering.{int_eq}
 use Rattle.std.proofs.lemmas.Bool.{lt-ltb, cases_eq, eq-eqb, ne_eqb, eqb-true, both_ways, false_from_ne_true, le-leb}
 use Rattle.std.proofs.lemmas.Bool.Decides.{Decides-int_eq}
 use Rattle.std.proofs.lemmas.List.{length-reverse}
-use Rattle.doc_model.specs.Document.{Document, row, rows}
-use Rattle.doc_model.specs.Axes.{on_axis, passes, is_reverse, axis_list}
+use Rattle.doc_model.specs.Document.{Document, rows}
+use Rattle.doc_model.specs.Axes.{is_reverse, axis_list}
 use Rattle.doc_model.specs.RowLists.{has, Run}
 use Rattle.doc_model.proofs.Runs.{canonical, filter_run, same_filter}
-use Rattle.xpath_values.specs.declared.value.XNum.{XNum}
 use Rattle.xpath_values.specs.declared.value.XNum.TheVariants.{Whole, NaN}
-use Rattle.xpath_values.specs.declared.value.Value.{Value}
-use Rattle.xpath_values.specs.declared.value.Value.TheVariants.{Nodes, Num, Str, Bool as Truth}
+use Rattle.xpath_values.specs.declared.value.Value.TheVariants.{Nodes, Num}
 use Rattle.xpath_values.specs.Numbers.{whole, in_range}
-use Rattle.xpath_parser.specs.declared.expression.Func.{Func}
 use Rattle.xpath_parser.specs.declared.expression.Func.TheVariants as f
 use Rattle.xpath_parser.specs.declared.expression.Expr.{Expr}
 use Rattle.xpath_parser.specs.declared.expression.Expr.TheVariants.{Path, Number}
 use Rattle.xpath_parser.specs.declared.expression.Start.TheVariants.{Here}
 use Rattle.xpath_parser.specs.declared.expression.Step.{Step, out-Step}
 use Rattle.xpath_parser.specs.Conversions.{rows_of, is_any}
-use Rattle.xpath_parser.specs.Functions.{Context, called, arg}
-use Rattle.xpath_parser.specs.Denote.{Meaning, denote, walk_of, start_of, rows_in, path, kept, kept_from, keeps}
+use Rattle.xpath_parser.specs.Functions.{Context, called}
+use Rattle.xpath_parser.specs.Denote.{Meaning, denote, walk_of, rows_in, kept, kept_from, keeps}
 use Rattle.xpath_parser.proofs.Equations.{at_path, at_here, at_step}
 use Rattle.xpath_parser.proofs.Equations.{at_number as at_number_eq}
 use Rattle.xpath_eval.specs.Steps.{IsLoneStep, IsLonePath, BeginsWithOne}

@@ -1,18 +1,18 @@
 -- Rows that add nothing to the rows of a step.
 use Rattle.std.proofs.Common.{◌≡◌, refl, sym, ◌∙◌, ap, subst, ℕ, zero, suc, ◌+◌, ◌-◌, ◌<◌, ◌≤◌, Bool, true, false, ◌||◌, ◌&&◌, eqb, ltb, cond, List, [], ◌∷◌, ◌++◌, length, map, take, leb, arith, inl, inr, ◌⊎◌, lt-ltb}
 use Rattle.std.specs.Prelude.{filter, reverse, not, IsTrue}
-use Rattle.std.specs.List.{All, list_any, range_with_len}
-use Rattle.std.proofs.lemmas.Bool.{and_parts, cases_lt, eqb-true, eq-eqb, ltb-true, leb-true, both_ways, false_from_ne_true, not_from_true, or_cases}
-use Rattle.std.proofs.lemmas.List.Elements.{All-nil, All-take}
+use Rattle.std.specs.List.{list_any, range_with_len}
+use Rattle.std.proofs.lemmas.Bool.{and_parts, cases_lt, eqb-true, eq-eqb, ltb-true, leb-true, both_ways, false_from_ne_true, or_cases}
+use Rattle.std.proofs.lemmas.List.Elements.{All-take}
 use Rattle.doc_model.specs.declared.Axis.{Axis}
 use Rattle.doc_model.specs.declared.Axis.TheVariants as axis
 use Rattle.doc_model.specs.declared.NodeTest.{NodeTest}
-use Rattle.doc_model.specs.Document.{Document, row, rows, is_attribute, below, IsDocument}
+use Rattle.doc_model.specs.Document.{Document, row, is_attribute, below, IsDocument}
 use Rattle.doc_model.specs.Axes.{on_axis, passes, is_reverse, axis_list}
 use Rattle.doc_model.specs.Ends.{IsEnd}
 use Rattle.doc_model.specs.RowLists.{has}
 use Rattle.doc_model.proofs.Runs.{same_filter_below, not_below, filter_run, has_append}
-use Rattle.doc_model.proofs.Below.{Small, small, below_cases, below_trans, below_by_end, past_end, below_less}
+use Rattle.doc_model.proofs.Below.{Small, small, below_cases, below_trans, below_by_end, past_end}
 use Rattle.xpath_parser.specs.declared.expression.Step.{Step, out-Step}
 use Rattle.xpath_parser.specs.Denote.{denote, walk_of, rows_in, kept}
 use Rattle.xpath_parser.proofs.Equations.{at_step}

@@ -1,9 +1,8 @@
 -- The step that `//` stands for and a child step after it are one step down.
-use Rattle.std.proofs.Common.{◌≡◌, refl, sym, ◌∙◌, ap, subst, ℕ, ◌<◌, ◌≤◌, true, false, ◌||◌, ◌&&◌, eqb, ltb, List, [], length, map, arith, inl, inr, ◌⊎◌}
+use Rattle.std.proofs.Common.{◌≡◌, refl, sym, ◌∙◌, ap, subst, ℕ, ◌<◌, true, false, eqb, ltb, List, length, map, arith, inl, inr}
 use Rattle.std.specs.List.{list_any}
 use Rattle.std.specs.Prelude.{not}
 use Rattle.std.proofs.lemmas.Bool.{and_parts, eqb-true, eq-eqb, ltb-true, or_cases, lt-ltb}
-use Rattle.doc_model.specs.declared.Axis.{Axis}
 use Rattle.doc_model.specs.declared.Axis.TheVariants as axis
 use Rattle.doc_model.specs.declared.NodeTest.{NodeTest}
 use Rattle.doc_model.specs.declared.NodeTest.TheVariants as test
@@ -15,7 +14,6 @@ use Rattle.doc_model.proofs.Below.{small, below_cases, below_parent, below_up, b
 use Rattle.xpath_parser.specs.declared.expression.Step.{Step, out-Step}
 use Rattle.xpath_parser.specs.Denote.{denote, walk_of, rows_in, kept}
 use Rattle.xpath_eval.specs.Steps.{IsAllBelow, IsTestedChild}
-use Rattle.xpath_eval.specs.Tests.{AreTests}
 use Rattle.xpath_eval.proofs.Covering.{or_first, or_second, both_true, not_true, same_truth, any_member, member_any, told_from, has_axis, plain_walk}
 use Rattle.xpath_eval.proofs.Filtering.{tested_after, filter_same, any_by}
 use Rattle.xpath_eval.proofs.Gathers.{rows_in_run}

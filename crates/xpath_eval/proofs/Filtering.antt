@@ -1,7 +1,7 @@
 -- Tests of rows, asked once for each row after the rows of all context rows were put together.
-use Rattle.std.proofs.Common.{◌≡◌, refl, sym, ◌∙◌, ap, subst, ℕ, suc, Bool, true, false, ◌||◌, ◌&&◌, eqb, cond, List, [], ◌∷◌, length, map}
+use Rattle.std.proofs.Common.{◌≡◌, refl, sym, ◌∙◌, ap, ℕ, suc, Bool, true, false, ◌||◌, ◌&&◌, eqb, cond, List, [], ◌∷◌, length, map}
 use Rattle.std.specs.Prelude.{filter}
-use Rattle.std.specs.List.{All, list_any, list_all}
+use Rattle.std.specs.List.{list_any, list_all}
 use Rattle.std.proofs.lemmas.Bool.{eqb-true}
 use Rattle.std.proofs.lemmas.List.Elements.{All-head, All-tail}
 use Rattle.doc_model.specs.Document.{Document, rows}

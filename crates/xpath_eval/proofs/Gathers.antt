@@ -1,11 +1,10 @@
 -- The rows of several lists together, and the order of the rows that an expression gives.
-use Rattle.std.proofs.Common.{◌≡◌, refl, sym, ◌∙◌, ap, subst, ℕ, ◌+◌, ◌<◌, ◌≤◌, Bool, true, false, ◌||◌, cond, List, [], ◌∷◌, ◌++◌, length, map, take, arith, inl, inr, ◌⊎◌}
-use Rattle.std.specs.Prelude.{filter}
-use Rattle.std.specs.List.{All, list_any, range_with_len}
+use Rattle.std.proofs.Common.{◌≡◌, refl, sym, ◌∙◌, ap, ℕ, ◌<◌, ◌≤◌, Bool, true, false, ◌||◌, List, [], ◌∷◌, ◌++◌, length, take, arith, inl, inr}
+use Rattle.std.specs.List.{list_any}
 use Rattle.std.proofs.lemmas.List.Folds.{list_any-append}
 use Rattle.std.proofs.lemmas.List.{take_all}
 use Rattle.std.proofs.lemmas.List.Elements.{All-nil}
-use Rattle.doc_model.specs.Document.{Document, rows}
+use Rattle.doc_model.specs.Document.{Document}
 use Rattle.doc_model.specs.RowLists.{Run, has}
 use Rattle.doc_model.proofs.Runs.{filter_run, gathered}
 use Rattle.xpath_values.specs.declared.value.Value.{Value}

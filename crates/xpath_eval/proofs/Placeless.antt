@@ -1,11 +1,11 @@
 -- Expressions whose value is the same at each position, and expressions that are no number.
-use Rattle.std.proofs.Common.{◌≡◌, refl, sym, ◌∙◌, ap, subst, ℕ, Bool, true, false, ◌||◌, ◌&&◌, cond, List, [], ◌∷◌, ◌++◌, length, map, get_or, ℤ}
+use Rattle.std.proofs.Common.{◌≡◌, refl, sym, ◌∙◌, ap, ℕ, Bool, true, false, ◌||◌, ◌&&◌, cond, List, [], ◌∷◌, ◌++◌, map, get_or, ℤ}
 use Rattle.std.specs.Prelude.{filter}
 use Rattle.std.specs.List.{All, list_any, list_all}
 use Rattle.std.proofs.lemmas.List.Elements.{All-head, All-tail}
 use Rattle.doc_model.specs.Document.{Document, rows}
 use Rattle.xpath_values.specs.declared.value.Value.{Value}
-use Rattle.xpath_values.specs.declared.value.Value.TheVariants.{Nodes, Num, Str, Bool as Truth}
+use Rattle.xpath_values.specs.declared.value.Value.TheVariants.{Nodes, Num, Bool as Truth}
 use Rattle.xpath_parser.specs.declared.expression.Expr.{Expr}
 use Rattle.xpath_parser.specs.declared.expression.Expr.TheVariants as e
 use Rattle.xpath_parser.specs.declared.expression.Start.{Start}
@@ -18,7 +18,7 @@ use Rattle.xpath_parser.specs.declared.expression.Func.{Func}
 use Rattle.xpath_parser.specs.declared.expression.Func.TheVariants as f
 use Rattle.xpath_parser.specs.Conversions.{rows_of, truth_of, number_of}
 use Rattle.xpath_parser.specs.Functions.{Context, called}
-use Rattle.xpath_parser.specs.Denote.{denote, start_of, walk_of, arm_at, rows_in, has, joined, applied, path, kept, signed, FromStart}
+use Rattle.xpath_parser.specs.Denote.{denote, walk_of, arm_at, rows_in, has, joined, applied, path, kept, signed}
 use Rattle.xpath_parser.proofs.Equations as eqs
 use Rattle.xpath_eval.specs.Tests.{IsPlaceless, IsPlacelessStart, EachPlaceless, EachOperandPlaceless, IsNoNumber, EndsCompared, is_number, is_placed, gives_number, compares}
 

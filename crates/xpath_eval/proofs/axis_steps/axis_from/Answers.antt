@@ -1,4 +1,4 @@
-use Rattle.std.proofs.Common.{◌≡◌, sym, subst, ℕ, ◌≤◌, List, length}
+use Rattle.std.proofs.Common.{sym, subst, ℕ, ◌≤◌, List, length}
 use Rattle.doc_model.specs.Axes.{axis_list}
 use Rattle.xpath_parser.specs.Denote.{rows_in}
 use Rattle.xpath_eval.specs.Rows.{AllBelow}

@@ -1,4 +1,4 @@
-use Rattle.std.proofs.Common.{◌≡◌, ap, sym, ◌∙◌, ℕ, List, [], ◌∷◌, length}
+use Rattle.std.proofs.Common.{ap, ℕ, List, [], ◌∷◌, length}
 use Rattle.doc_model.specs.Axes.{axis_list}
 use Rattle.doc_model.specs.RowLists.{has}
 use Rattle.xpath_eval.proofs.Gathers as gathers

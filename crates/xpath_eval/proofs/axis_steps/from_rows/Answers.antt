@@ -1,4 +1,4 @@
-use Rattle.std.proofs.Common.{◌≡◌, ap, sym, ◌∙◌, subst, ℕ, ◌||◌, List, [], ◌∷◌, ◌++◌, length, take, get_or}
+use Rattle.std.proofs.Common.{ap, sym, ◌∙◌, subst, ℕ, ◌||◌, List, [], length, take, get_or}
 use Rattle.std.proofs.lemmas.List.{take_more}
 use Rattle.doc_model.specs.Axes.{axis_list}
 use Rattle.doc_model.specs.RowLists.{has}

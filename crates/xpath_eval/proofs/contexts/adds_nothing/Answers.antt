@@ -1,7 +1,6 @@
-use Rattle.std.proofs.Common.{◌≡◌, sym, ◌∙◌, ap, subst, ℕ, true, false, Bool, ◌&&◌, ◌≤◌}
+use Rattle.std.proofs.Common.{◌≡◌, sym, ◌∙◌, subst, true, ◌≤◌}
 use Rattle.std.specs.Prelude.{not}
 use Rattle.std.proofs.lemmas.Bool.{and_parts}
-use Rattle.doc_model.specs.declared.Axis.{Axis}
 use Rattle.doc_model.specs.Document.{below, is_attribute}
 use Rattle.xpath_eval.specs.Contexts.{AddsNothing}
 use Rattle.xpath_eval.proofs.Covering as covering

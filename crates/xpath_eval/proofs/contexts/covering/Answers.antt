@@ -1,4 +1,4 @@
-use Rattle.std.proofs.Common.{◌≡◌, sym, ◌∙◌, ap, subst}
+use Rattle.std.proofs.Common.{◌∙◌, ap}
 use Rattle.std.specs.Prelude.{reverse}
 use Rattle.xpath_eval.specs.Contexts.{Covers}
 use Rattle.xpath_eval.proofs.Covering as covering

@@ -1,4 +1,4 @@
-use Rattle.std.proofs.Common.{◌≡◌, sym, ◌∙◌, ap, subst, ℕ, true, false, Bool, [], ◌<◌, ◌+◌, length, take, get_or, arith}
+use Rattle.std.proofs.Common.{◌≡◌, sym, subst, false, [], ◌<◌, ◌+◌, length, take, get_or}
 use Rattle.std.specs.Prelude.{not}
 use Rattle.std.proofs.lemmas.List.{take_more}
 use Rattle.std.proofs.lemmas.List.Elements.{All-nil}

@@ -1,4 +1,4 @@
-use Rattle.std.proofs.Common.{◌≡◌, sym, ◌∙◌, ap, ◌<◌, length, take, set, get_or, arith}
+use Rattle.std.proofs.Common.{sym, ◌∙◌, ap, ◌<◌, length, take, set, arith}
 use Rattle.std.proofs.lemmas.List.{get_or_default}
 use Rattle.xpath_eval.proofs.Counting.{only_none, only_one}
 use Rattle.xpath_eval.proofs.counts.only.Goals as goal

@@ -1,4 +1,4 @@
-use Rattle.std.proofs.Common.{◌≡◌, sym, subst, ◌≤◌, length}
+use Rattle.std.proofs.Common.{sym, subst, ◌≤◌, length}
 use Rattle.xpath_eval.specs.Rows.{AllBelow}
 use Rattle.xpath_eval.proofs.Kept.{axis_below, axis_few}
 use Rattle.xpath_eval.proofs.forms.axis_rows.Goals as goal

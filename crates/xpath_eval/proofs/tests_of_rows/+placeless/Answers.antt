@@ -1,4 +1,4 @@
-use Rattle.std.proofs.Common.{◌≡◌, ap, sym, ◌∙◌, subst, take}
+use Rattle.std.proofs.Common.{sym, ◌∙◌, subst}
 use Rattle.std.proofs.lemmas.List.{take_all}
 use Rattle.xpath_parser.specs.declared.expression.Operand.{Operand, out-Operand}
 use Rattle.xpath_eval.specs.Tests.{IsPlaceless, IsPlacelessStart, EachPlaceless, EachOperandPlaceless}

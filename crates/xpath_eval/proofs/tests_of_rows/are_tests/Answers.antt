@@ -1,4 +1,4 @@
-use Rattle.std.proofs.Common.{◌≡◌, subst, take}
+use Rattle.std.proofs.Common.{subst}
 use Rattle.std.proofs.lemmas.List.{take_all}
 use Rattle.xpath_eval.specs.Tests.{IsTest, AreTests}
 use Rattle.xpath_eval.proofs.Lists.{all_more}

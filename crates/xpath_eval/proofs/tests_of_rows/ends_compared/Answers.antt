@@ -1,4 +1,4 @@
-use Rattle.std.proofs.Common.{◌≡◌, ap, sym, ◌∙◌, ◌+◌, ◌-◌, length, take, arith}
+use Rattle.std.proofs.Common.{sym, ◌∙◌, ◌+◌, ◌-◌, length, take, arith}
 use Rattle.std.proofs.lemmas.List.{take_all}
 use Rattle.xpath_eval.proofs.Lists.{take_at}
 use Rattle.xpath_eval.proofs.tests_of_rows.ends_compared.Goals as goal

@@ -1,4 +1,4 @@
-use Rattle.std.proofs.Common.{◌≡◌, ap, sym, ◌∙◌, subst}
+use Rattle.std.proofs.Common.{sym, ◌∙◌, subst}
 use Rattle.xpath_eval.specs.Tests.{IsNoNumber, EndsCompared}
 use Rattle.xpath_eval.proofs.Covering.{was_false}
 use Rattle.xpath_eval.proofs.Placeless as placeless
