@@ -1,18 +1,7 @@
 //! The program `extract`: compiles CSS selectors to XPath, and runs scripts of queries on pages.
 #![tactic(auto)]
 
-mod answers;
-mod bulk;
-mod laws;
-mod page_lines;
-mod pages;
-mod status;
-mod top;
-mod words;
-mod writing;
-
-use crate::status::Status;
-use crate::top::extract;
+use extract_call::{Status, extract};
 use io_edges::{FilePages, StdoutSink};
 use std::env;
 use std::io::ErrorKind;
@@ -65,10 +54,3 @@ fn main(rt: HostRuntime) -> ExitCode {
     }
     ExitCode::from(status.number())
 }
-
-#[cfg(test)]
-mod run_tests;
-#[cfg(test)]
-mod tested;
-#[cfg(test)]
-mod tests;

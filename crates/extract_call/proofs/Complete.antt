@@ -1,0 +1,118 @@
+-- How a run without faults ends.
+use Rattle.std.proofs.Common.{◌≡◌, refl, ℕ, ◌<◌, List, [], Option, Some, None, length, sym, ◌∙◌, ap, arith, inl, inr, append-nil, subst}
+use Rattle.std.specs.Prelude.{IfSome, true, false, ◌⊎◌, slice_index_or}
+use Rattle.io_edges.specs.Counts.{Rose, Grows}
+use Rattle.io_edges.specs.Pages.{Lacks}
+use Rattle.io_edges.specs.Sink.{grown, TakesPart}
+use Rattle.extract_call.specs.Answers.{Answer, bytes_of, line_bytes}
+use Rattle.extract_call.specs.Output.{names_of, answers, known, page_answers, HasAll, Written, Stopped, Completes, Lacking}
+use Rattle.extract_call.specs.Plans.{Plan, alone, over}
+use Rattle.extract_call.specs.Ending.{Ended}
+use Rattle.extract_call.proofs.OutputLemmas.{part_of_nothing, not_all, answers_lacking}
+use Rattle.extract_call.proofs.Turns.{turn_alone, turn_of_nothing}
+use Rattle.extract_call.specs.declared.status.Status.{Status}
+use Rattle.extract_call.specs.declared.status.Status.TheVariants.{Done, Refused, Usage, Memory, ReadFault, WriteFault}
+
+-- a run that found no memory before it began a page
+pub nothing_written : (plan : Plan) (told : Option (List (List ℕ × List ℕ))) (b f : ℕ) (old : Option (List ℕ)) (s : ℕ) → Ended plan told b b f f old old s s Memory
+nothing_written plan told b f old s = record {
+  prefix = front (known plan told) (λ pages. bytes_of (answers plan pages));
+  done = λ z. absurd (cc);
+  refused = λ z. absurd (cc);
+  begun_all = neither;
+  read_fault = λ z. absurd (cc);
+  in_turn = turn_of_nothing plan told old b;
+  write_fault = λ z. absurd (cc);
+  used = λ z. cc;
+}
+  where
+    front : (told : Option (List (List ℕ × List ℕ))) (bytes : List (List ℕ × List ℕ) → List ℕ) → IfSome told (λ pages. TakesPart old (bytes pages) old)
+    front None bytes = tt
+    front (Some pages) bytes = part_of_nothing old (bytes pages)
+
+    neither : (Memory ≡ Done) ⊎ (Memory ≡ Refused) → Grows b (length (names_of plan)) b
+    neither (inl e) = absurd (cc)
+    neither (inr e) = absurd (cc)
+
+-- a run without pages whose line was not written whole
+pub alone_stopped : (made a : Answer) (told : Option (List (List ℕ × List ℕ))) (b f : ℕ) (old new : Option (List ℕ)) (s s' : ℕ) (status : Status) →
+    TakesPart old (line_bytes made) new → made ≡ a → (status ≡ WriteFault → Rose s s') →
+    (status ≡ Done → ⊥) → (status ≡ Refused → ⊥) → (status ≡ Usage → ⊥) → (status ≡ ReadFault → ⊥) → Ended (alone a) told b b f f old new s s' status
+alone_stopped made a told b f old new s s' status t same wf nd nr nu nf = record {
+  prefix = rw (append-nil (line_bytes a)) part;
+  done = λ z. absurd (nd z);
+  refused = λ z. absurd (nr z);
+  begun_all = neither;
+  read_fault = λ z. absurd (nf z);
+  in_turn = turn_alone a told old new b part;
+  write_fault = wf;
+  used = nu;
+}
+  where
+    part : TakesPart old (line_bytes a) new
+    part = subst (λ (x : Answer). TakesPart old (line_bytes x) new) same t
+
+    neither : (status ≡ Done) ⊎ (status ≡ Refused) → Grows b (length (names_of (alone a))) b
+    neither (inl z) = absurd (nd z)
+    neither (inr z) = absurd (nr z)
+
+-- a run without pages meets no read fault
+pub no_read_fault : (plan : Plan) (told : Option (List (List ℕ × List ℕ))) (b b' f f' : ℕ) (old new : Option (List ℕ)) (s s' : ℕ) (status : Status)
+    → Ended plan told b b' f f' old new s s' status → names_of plan ≡ [] → status ≡ ReadFault → ⊥
+no_read_fault plan told b b' f f' old new s s' status e none stopped =
+    let q : Stopped plan told b b' f f' old new = e.read_fault stopped in
+    let w : q.before < length (names_of plan) = q.within in
+    let z : length (names_of plan) ≡ 0 = ap length none in omega arith
+
+by_status : (plan : Plan) (told : List (List ℕ × List ℕ)) (taken taken' : Option (List ℕ)) (status : Status) →
+    (status ≡ Done → Written plan told taken taken' false) → (status ≡ Refused → Written plan told taken taken' true) →
+    (status ≡ ReadFault → ⊥) → (status ≡ WriteFault → ⊥) → (status ≡ Usage → ⊥) → Completes plan told taken taken' status
+by_status plan told taken taken' Done d r f w u = inr (inl (refl, d refl))
+by_status plan told taken taken' Refused d r f w u = inr (inr (refl, r refl))
+by_status plan told taken taken' Usage d r f w u = absurd (u refl)
+by_status plan told taken taken' Memory d r f w u = inl refl
+by_status plan told taken taken' ReadFault d r f w u = absurd (f refl)
+by_status plan told taken taken' WriteFault d r f w u = absurd (w refl)
+
+no_cause : (line : List ℕ → List ℕ → Answer) (names : List (List ℕ)) (told : List (List ℕ × List ℕ)) (b b' f f' : ℕ) (taken taken' : Option (List ℕ)) → HasAll told names → (Rose f f' → ⊥) →
+    Stopped (over line names) (Some told) b b' f f' taken taken' → ⊥
+no_cause line names told b b' f f' taken taken' h nf s = here s.cause
+  where
+    here : Rose f f' ⊎ Lacks (Some told) (slice_index_or names s.before []) → ⊥
+    here (inl r) = nf r
+    here (inr l) = not_all told names s.before s.within l h
+
+pub completes : (plan : Plan) (told : Option (List (List ℕ × List ℕ))) (b b' f f' : ℕ) (taken taken' : Option (List ℕ)) (s s' : ℕ) (status : Status) →
+    Ended plan told b b' f f' taken taken' s s' status → (Rose f f' → ⊥) → (Rose s s' → ⊥) →
+    IfSome (known plan told) (λ pages. HasAll pages (names_of plan) → Completes plan pages taken taken' status)
+completes (alone a) told b b' f f' taken taken' s s' status e nf ns = λ h.
+    by_status (alone a) [] taken taken' status e.done e.refused (λ z. let q : Stopped (alone a) told b b' f f' taken taken' = e.read_fault z in let w : q.before < 0 = q.within in omega arith) (λ z. ns (e.write_fault z)) e.used
+completes (over line names) None b b' f f' taken taken' s s' status e nf ns = tt
+completes (over line names) (Some told) b b' f f' taken taken' s s' status e nf ns = λ h.
+    by_status (over line names) told taken taken' status e.done e.refused (λ z. no_cause line names told b b' f f' taken taken' h nf (e.read_fault z)) (λ z. ns (e.write_fault z)) e.used
+
+by_status_lacking : (plan : Plan) (told : List (List ℕ × List ℕ)) (taken taken' : Option (List ℕ)) (status : Status) →
+    (status ≡ Done → ⊥) → (status ≡ Refused → ⊥) →
+    (status ≡ ReadFault → taken' ≡ grown taken (bytes_of (answers plan told))) → (status ≡ WriteFault → ⊥) → (status ≡ Usage → ⊥) → Lacking plan told taken taken' status
+by_status_lacking plan told taken taken' Done d r f w u = absurd (d refl)
+by_status_lacking plan told taken taken' Refused d r f w u = absurd (r refl)
+by_status_lacking plan told taken taken' Usage d r f w u = absurd (u refl)
+by_status_lacking plan told taken taken' Memory d r f w u = inl refl
+by_status_lacking plan told taken taken' ReadFault d r f w u = inr (refl, f refl)
+by_status_lacking plan told taken taken' WriteFault d r f w u = absurd (w refl)
+
+all_before : (line : List ℕ → List ℕ → Answer) (names : List (List ℕ)) (told : List (List ℕ × List ℕ)) (b b' f f' : ℕ) (taken taken' : Option (List ℕ)) → (Rose f f' → ⊥) →
+    Stopped (over line names) (Some told) b b' f f' taken taken' → taken' ≡ grown taken (bytes_of (page_answers line told names))
+all_before line names told b b' f f' taken taken' nf s = here s.cause
+  where
+    here : Rose f f' ⊎ Lacks (Some told) (slice_index_or names s.before []) → taken' ≡ grown taken (bytes_of (page_answers line told names))
+    here (inl r) = absurd (nf r)
+    here (inr l) = s.written ∙ ap (λ x. grown taken (bytes_of x)) (sym (answers_lacking line told names s.before s.there s.within l))
+
+pub lacks : (plan : Plan) (told : Option (List (List ℕ × List ℕ))) (b b' f f' : ℕ) (taken taken' : Option (List ℕ)) (s s' : ℕ) (status : Status) →
+    Ended plan told b b' f f' taken taken' s s' status → (Rose f f' → ⊥) → (Rose s s' → ⊥) →
+    IfSome (known plan told) (λ pages. (HasAll pages (names_of plan) → ⊥) → Lacking plan pages taken taken' status)
+lacks (alone a) told b b' f f' taken taken' s s' status e nf ns = λ h. absurd (h tt)
+lacks (over line names) None b b' f f' taken taken' s s' status e nf ns = tt
+lacks (over line names) (Some told) b b' f f' taken taken' s s' status e nf ns = λ h.
+    by_status_lacking (over line names) told taken taken' status (λ z. h (e.done z).there) (λ z. h (e.refused z).there) (λ z. all_before line names told b b' f f' taken taken' nf (e.read_fault z)) (λ z. ns (e.write_fault z)) e.used

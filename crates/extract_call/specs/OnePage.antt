@@ -1,0 +1,43 @@
+-- For the contracts of private functions alone: one page of a run.
+use Rattle.std.specs.Prelude.{◌≡◌, ◌⊎◌, ℕ, Bool, true, List, Option, Some, IfSome}
+use Rattle.std.specs.List.{list_any}
+use Rattle.text_base.specs.declared.reasons.PageFault.{PageFault}
+use Rattle.doc_model.specs.Document.{Document}
+use Rattle.html_reader.specs.Pages.{BuildsPage, IsPageFault}
+use Rattle.query_script.specs.declared.script.Field.{Field}
+use Rattle.query_script.specs.declared.script.FieldValue.{FieldValue}
+use Rattle.json_lines.specs.Pages.{page_text, refused_text}
+use Rattle.io_edges.specs.Pages.{page}
+use Rattle.io_edges.specs.Sink.{grown, TakesPart}
+use Rattle.extract_call.specs.Answers.{Answer, line_bytes}
+use Rattle.extract_call.specs.PageLines.{AreValues, is_refused}
+
+-- the line of a document
+pub record IsDocumentLine (fields : List Field) (name : List ℕ) (doc : Document) (a : Answer) : Type 0 where
+  pub values : List FieldValue
+  pub are : AreValues doc fields values
+  pub line : a ≡ record { text = page_text name fields values; refused = list_any is_refused values }
+
+-- the text has a fault, and the line has it
+pub record IsFaultLine (name text : List ℕ) (a : Answer) : Type 0 where
+  pub fault : PageFault
+  pub is : IsPageFault text fault.reason fault.at
+  pub line : a ≡ record { text = refused_text name fault; refused = true }
+
+-- the text builds a document, and the line is that of the document
+pub record IsBuiltLine (fields : List Field) (name text : List ℕ) (a : Answer) : Type 0 where
+  pub doc : Document
+  pub builds : BuildsPage text doc
+  pub is : IsDocumentLine fields name doc a
+
+-- the line of a text within the limit
+abbrev pub IsTextLine : List Field → List ℕ → List ℕ → Answer → Type 0
+IsTextLine fields name text a = IsFaultLine name text a ⊎ IsBuiltLine fields name text a
+
+-- where the pages are told, this one is there and its line was taken
+abbrev pub TakesLine : (List ℕ → List ℕ → Answer) → Option (List (List ℕ × List ℕ)) → List ℕ → Option (List ℕ) → Option (List ℕ) → Bool → Type 0
+TakesLine line told name taken taken' refused = IfSome told (λ pages. (bytes : List ℕ) × ((page pages name ≡ Some bytes) × (((line name bytes).refused ≡ refused) × (taken' ≡ grown taken (line_bytes (line name bytes))))))
+
+-- where the pages are told, this one is there and a part of its line was taken
+abbrev pub TakesLinePart : (List ℕ → List ℕ → Answer) → Option (List (List ℕ × List ℕ)) → List ℕ → Option (List ℕ) → Option (List ℕ) → Type 0
+TakesLinePart line told name taken taken' = IfSome told (λ pages. (bytes : List ℕ) × ((page pages name ≡ Some bytes) × TakesPart taken (line_bytes (line name bytes)) taken'))

@@ -1,0 +1,77 @@
+-- The line of a page, which is made of the fields of a script, the page's name and its bytes, and of nothing else.
+use Rattle.std.specs.Prelude.{◌≡◌, ◌≤◌, ◌<◌, ℕ, ◌⊎◌, Bool, true, false, List, [], ◌∷◌, length, Ok, Err}
+use Rattle.std.specs.List.{list_any}
+use Rattle.text_base.specs.declared.reasons.PageFault.{PageFault}
+use Rattle.text_base.specs.declared.reasons.PageReason.TheVariants.{TooLong}
+use Rattle.text_base.specs.Decoding.{decoded}
+use Rattle.doc_model.specs.Document.{Document}
+use Rattle.html_reader.specs.Pages.{BuildsPage, IsPageFault}
+use Rattle.query_script.specs.declared.script.Field.{Field}
+use Rattle.query_script.specs.declared.script.FieldValue.{FieldValue}
+use Rattle.query_script.specs.declared.script.FieldValue.TheVariants.{All, One, Refused}
+use Rattle.query_chain.specs.Chains.{IsValue}
+use Rattle.json_lines.specs.Pages.{page_text, refused_text}
+use Rattle.extract_call.specs.Answers.{Answer}
+pub use Rattle.io_edges.specs.Pages.{most_page}
+
+-- why a page with more bytes is refused: the place is that of the first byte too many
+abbrev pub too_long : PageFault
+too_long = record { reason = TooLong; at = most_page }
+
+pub record IsTooLong (bytes : List ℕ) (fault : PageFault) : Type 0 where
+  pub long : most_page < length bytes
+  pub is : fault ≡ too_long
+
+-- the bytes are no text, and the place is in the bytes as they were read
+pub record IsNoText (bytes : List ℕ) (fault : PageFault) : Type 0 where
+  pub short : length bytes ≤ most_page
+  pub is : decoded bytes ≡ Err fault
+
+-- the text of the bytes builds no tree, and the place is in that text
+pub record IsNoTree (bytes : List ℕ) (fault : PageFault) : Type 0 where
+  pub short : length bytes ≤ most_page
+  pub text : List ℕ
+  pub decodes : decoded bytes ≡ Ok text
+  pub is : IsPageFault text fault.reason fault.at
+
+-- why the page of these bytes is refused
+abbrev pub IsPageRefused : List ℕ → PageFault → Type 0
+IsPageRefused bytes fault = IsTooLong bytes fault ⊎ (IsNoText bytes fault ⊎ IsNoTree bytes fault)
+
+-- the page is refused: the line has the place, the name and the reason
+pub record IsRefusedPageLine (name bytes : List ℕ) (a : Answer) : Type 0 where
+  pub fault : PageFault
+  pub cause : IsPageRefused bytes fault
+  pub line : a ≡ record { text = refused_text name fault; refused = true }
+
+-- each field has the value at its place
+abbrev pub AreValues : Document → List Field → List FieldValue → Type 0
+AreValues doc [] [] = Unit {0}
+AreValues doc [] (v ∷ values) = ⊥
+AreValues doc (f ∷ fields) [] = ⊥
+AreValues doc (f ∷ fields) (v ∷ values) = IsValue doc f v × AreValues doc fields values
+
+-- the value is a refusal
+abbrev pub is_refused : FieldValue → Bool
+is_refused (All texts) = false
+is_refused (One text) = false
+is_refused (Refused why) = true
+
+-- the text of the bytes builds a document: the line has the fields with their values there, and it holds a refusal where one of the fields is refused
+pub record IsValuesLine (fields : List Field) (name bytes : List ℕ) (a : Answer) : Type 0 where
+  pub short : length bytes ≤ most_page
+  pub text : List ℕ
+  pub decodes : decoded bytes ≡ Ok text
+  pub doc : Document
+  pub builds : BuildsPage text doc
+  pub values : List FieldValue
+  pub are : AreValues doc fields values
+  pub line : a ≡ record { text = page_text name fields values; refused = list_any is_refused values }
+
+-- the line of a page
+abbrev pub IsPageLine : List Field → List ℕ → List ℕ → Answer → Type 0
+IsPageLine fields name bytes a = IsRefusedPageLine name bytes a ⊎ IsValuesLine fields name bytes a
+
+-- what makes the line of each page by these fields
+abbrev pub MakesLines : List Field → (List ℕ → List ℕ → Answer) → Type 0
+MakesLines fields line = (name bytes : List ℕ) → IsPageLine fields name bytes (line name bytes)

@@ -1,0 +1,22 @@
+//! The top call of the program `extract`: compiles CSS selectors to XPath, and runs scripts of queries on pages.
+#![tactic(auto)]
+
+mod answers;
+mod bulk;
+mod laws;
+mod page_lines;
+mod pages;
+#[cfg(test)]
+mod run_tests;
+mod status;
+#[cfg(test)]
+mod tested;
+#[cfg(test)]
+mod tests;
+mod top;
+mod words;
+mod writing;
+
+pub use laws::{bulk_script_reads, one_plan, one_reading, words_of_commands};
+pub use status::Status;
+pub use top::extract;

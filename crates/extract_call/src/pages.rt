@@ -1,0 +1,148 @@
+//! The pages of a run, one after the other.
+ghost use Rattle.std.specs.Prelude.{◌≡◌, ◌≢◌, ◌⊎◌, ◌≤◌, ℕ, [], List, Some, map, length, OnErr, IfOk, IsErrOf, Err, IfSome, string_bytes};
+ghost use Rattle.std.specs.List.{AllByRecursion};
+ghost use Rattle.io_edges.specs.Counts.{Rose, Grows};
+ghost use Rattle.io_edges.specs.Pages.{page, Lacks};
+ghost use Rattle.io_edges.specs.Sink.{grown, TakesPart};
+ghost use Rattle.query_script.specs.Ordered.{IsOrdered};
+ghost use Rattle.extract_call.specs.Answers.{Answer, answer_of, line_bytes};
+ghost use Rattle.extract_call.specs.Ending.{Ended};
+ghost use Rattle.extract_call.specs.OnePage.{TakesLine, TakesLinePart};
+ghost use Rattle.extract_call.specs.PageLines.{IsPageLine, MakesLines};
+ghost use Rattle.extract_call.specs.Plans.{over};
+ghost use Rattle.extract_call.specs.Tasks.{AreTasks};
+
+use crate::answers::Line;
+use crate::page_lines::{long_answer, page_answer, prepare_fields};
+use crate::status::Status;
+use crate::writing::write_line;
+use io_edges::{Pages, ReadEnd, Sink, read_page};
+use query_chain::Ready;
+use query_script::Field;
+use std::alloc::Global;
+use text_base::Seq;
+
+/// Reads a page and makes its line.
+fn read_line<P: Pages>(
+    alloc: Global,
+    fields: &Seq<Field>,
+    ready: &[Ready],
+    name: &str,
+    pages: &mut P,
+) -> Result<Line, Status>
+    requires { AreTasks fields.now ready.now }
+    ensures told { P.told pages.new ≡ P.told pages.old }
+    ensures begun { Grows (P.begun pages.old) 1 (P.begun pages.new) }
+    ensures never_falls { P.faults pages.old ≤ P.faults pages.new }
+    ensures uncounted { ¬ IsErrOf result Status.ReadFault → P.faults pages.new ≡ P.faults pages.old }
+    ensures ok { IfOk result (λ line. IfSome (P.told pages.old) (λ told. (bytes : List ℕ) × ((page told name.now ≡ Some bytes) × IsPageLine fields.now name.now bytes (answer_of line)))) }
+    ensures read_fault { IsErrOf result Status.ReadFault → Rose (P.faults pages.old) (P.faults pages.new) ⊎ Lacks (P.told pages.old) name.now }
+    ensures other { (result ≢ Err Status.Done) × (result ≢ Err Status.Refused) × (result ≢ Err Status.Usage) × (result ≢ Err Status.WriteFault) }
+{
+    let made = match read_page(alloc, pages, name) {
+        Ok(bytes) => page_answer(alloc, fields, ready, name, bytes.as_slice()),
+        Err(ReadEnd::Fault) => return Err(Status::ReadFault),
+        Err(ReadEnd::TooLong) => long_answer(alloc, name),
+        Err(ReadEnd::Memory) => return Err(Status::Memory),
+    };
+    match made {
+        Ok(line) => Ok(line),
+        Err(_) => Err(Status::Memory),
+    }
+}
+
+/// Reads a page, writes its line, and tells whether it holds a refusal.
+fn write_page<P: Pages, W: Sink>(
+    alloc: Global,
+    fields: &Seq<Field>,
+    ready: &[Ready],
+    name: &str,
+    pages: &mut P,
+    sink: &mut W,
+) -> Result<bool, Status>
+    requires { AreTasks fields.now ready.now }
+    ensures told { P.told pages.new ≡ P.told pages.old }
+    ensures begun { Grows (P.begun pages.old) 1 (P.begun pages.new) }
+    ensures page_faults { P.faults pages.old ≤ P.faults pages.new }
+    ensures sink_faults { W.faults sink.old ≤ W.faults sink.new }
+    ensures pages_uncounted { ¬ IsErrOf result Status.ReadFault → P.faults pages.new ≡ P.faults pages.old }
+    ensures sink_uncounted { ¬ IsErrOf result Status.WriteFault → W.faults sink.new ≡ W.faults sink.old }
+    ensures ok { IfOk result (λ r. (line : List ℕ → List ℕ → Answer) → MakesLines fields.now line → TakesLine line (P.told pages.old) name.now (W.taken sink.old) (W.taken sink.new) r) }
+    ensures err { OnErr result ((line : List ℕ → List ℕ → Answer) → MakesLines fields.now line →
+        (W.taken sink.new ≡ W.taken sink.old) ⊎ TakesLinePart line (P.told pages.old) name.now (W.taken sink.old) (W.taken sink.new)) }
+    ensures read_fault { IsErrOf result Status.ReadFault → (Rose (P.faults pages.old) (P.faults pages.new) ⊎ Lacks (P.told pages.old) name.now) × (W.taken sink.new ≡ W.taken sink.old) }
+    ensures write_fault { IsErrOf result Status.WriteFault → Rose (W.faults sink.old) (W.faults sink.new) }
+    ensures other { (result ≢ Err Status.Done) × (result ≢ Err Status.Refused) × (result ≢ Err Status.Usage) }
+{
+    match read_line(alloc, fields, ready, name, pages) {
+        Ok(line) => match write_line(line, sink) {
+            Ok(refused) => Ok(refused),
+            Err(status) => Err(status),
+        },
+        Err(status) => Err(status),
+    }
+}
+
+/// Reads each page and writes its line, by fields that are ready.
+fn write_each<P: Pages, W: Sink>(
+    alloc: Global,
+    fields: &Seq<Field>,
+    ready: &[Ready],
+    names: &[String],
+    pages: &mut P,
+    sink: &mut W,
+) -> Status
+    requires { AreTasks fields.now ready.now }
+    ensures told { P.told pages.new ≡ P.told pages.old }
+    ensures page_faults { P.faults pages.old ≤ P.faults pages.new }
+    ensures sink_faults { W.faults sink.old ≤ W.faults sink.new }
+    ensures pages_uncounted { result ≢ Status.ReadFault → P.faults pages.new ≡ P.faults pages.old }
+    ensures sink_uncounted { result ≢ Status.WriteFault → W.faults sink.new ≡ W.faults sink.old }
+    ensures idle { names.now ≡ [] → pages.new ≡ pages.old }
+    ensures ended { (line : List ℕ → List ℕ → Answer) → MakesLines fields.now line → Ended (over line (map string_bytes names.now)) (P.told pages.old)
+        (P.begun pages.old) (P.begun pages.new) (P.faults pages.old) (P.faults pages.new)
+        (W.taken sink.old) (W.taken sink.new) (W.faults sink.old) (W.faults sink.new) result }
+    ensures write_fault { result ≡ Status.WriteFault → Rose (W.faults sink.old) (W.faults sink.new) }
+    ensures other { result ≢ Status.Usage }
+{
+    let mut refused = false;
+    for name in names {
+        match write_page(alloc, fields, ready, name.as_str(), pages, sink) {
+            Ok(one) => refused = refused || one,
+            Err(status) => return status,
+        }
+    }
+    if refused {
+        Status::Refused
+    } else {
+        Status::Done
+    }
+}
+
+/// Makes the fields ready, once for all pages, and then reads each page and writes its line. Where no memory is found for the
+/// first, no page is begun.
+pub fn write_pages<P: Pages, W: Sink>(
+    alloc: Global,
+    fields: &Seq<Field>,
+    names: &[String],
+    pages: &mut P,
+    sink: &mut W,
+) -> Status
+    requires { AllByRecursion IsOrdered fields.now }
+    ensures told { P.told pages.new ≡ P.told pages.old }
+    ensures page_faults { P.faults pages.old ≤ P.faults pages.new }
+    ensures sink_faults { W.faults sink.old ≤ W.faults sink.new }
+    ensures pages_uncounted { result ≢ Status.ReadFault → P.faults pages.new ≡ P.faults pages.old }
+    ensures sink_uncounted { result ≢ Status.WriteFault → W.faults sink.new ≡ W.faults sink.old }
+    ensures idle { names.now ≡ [] → pages.new ≡ pages.old }
+    ensures ended { (line : List ℕ → List ℕ → Answer) → MakesLines fields.now line → Ended (over line (map string_bytes names.now)) (P.told pages.old)
+        (P.begun pages.old) (P.begun pages.new) (P.faults pages.old) (P.faults pages.new)
+        (W.taken sink.old) (W.taken sink.new) (W.faults sink.old) (W.faults sink.new) result }
+    ensures write_fault { result ≡ Status.WriteFault → Rose (W.faults sink.old) (W.faults sink.new) }
+    ensures other { result ≢ Status.Usage }
+{
+    match prepare_fields(alloc, fields.as_slice()) {
+        Ok(ready) => write_each(alloc, fields, ready.as_slice(), names, pages, sink),
+        Err(_) => Status::Memory,
+    }
+}

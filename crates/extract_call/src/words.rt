@@ -1,0 +1,106 @@
+//! The forms that the program's words may have.
+ghost use Rattle.std.specs.Prelude.{◌≡◌, [], ◌∷◌, map, string_bytes};
+ghost use Rattle.extract_call.specs.Words.{dialect_of, is_digit, count_of, read, command_of};
+
+use css_selectors::Dialect;
+
+/// What the words ask for.
+#[derive(Clone, Copy)]
+pub enum Form<'w> {
+    /// `css DIALECT SELECTOR`: the line of the selector.
+    Css(Dialect, &'w str),
+    /// `run DIALECT SCRIPT PAGE..`: a line for each page.
+    Run(Dialect, &'w str, &'w [String]),
+    /// `bulk N`: the line of the bulk page of N items.
+    Bulk(u32),
+    /// None of the forms.
+    Other,
+}
+
+/// The dialect that the word names.
+#[tactic(auto, unfolding(crate::specs::Words::dialect_of))]
+fn dialect_of(word: &str) -> Option<Dialect>
+    ensures { result ≡ dialect_of word.now }
+{
+    if word == "generic" {
+        return Some(Dialect::Generic);
+    }
+    if word == "html" {
+        return Some(Dialect::Html);
+    }
+    None
+}
+
+fn is_digit(byte: u8) -> bool
+    ensures { result ≡ is_digit byte }
+{
+    byte >= b'0' && byte <= b'9'
+}
+
+/// The number from 1 to 20,000 that one to five digits spell.
+fn count_of(word: &str) -> Option<u32>
+    ensures { result ≡ count_of word.now }
+{
+    let bytes = word.as_bytes();
+    if bytes.is_empty() {
+        return None;
+    }
+    if bytes.len() > 5 {
+        return None;
+    }
+    let mut value: u32 = 0;
+    for byte in bytes {
+        if !is_digit(*byte) {
+            return None;
+        }
+        value = 10 * value + (*byte - b'0') as u32;
+    }
+    if value < 1 {
+        return None;
+    }
+    if value > 20_000 {
+        return None;
+    }
+    Some(value)
+}
+
+/// `bulk N`.
+fn bulk_form<'w>(first: &'w str, count: &'w str) -> Form<'w>
+    ensures { command_of result ≡ read (first.now ∷ count.now ∷ []) }
+{
+    if first != "bulk" {
+        return Form::Other;
+    }
+    match count_of(count) {
+        Some(n) => Form::Bulk(n),
+        None => Form::Other,
+    }
+}
+
+/// What the words say.
+pub fn read(words: &[String]) -> Form<'_>
+    ensures { command_of result ≡ read (map string_bytes words.now) }
+{
+    if let [first, count] = words {
+        return bulk_form(first.as_str(), count.as_str());
+    }
+    if let [first, dialect, selector] = words {
+        if first.as_str() != "css" {
+            return Form::Other;
+        }
+        let Some(dialect) = dialect_of(dialect.as_str()) else {
+            return Form::Other;
+        };
+        return Form::Css(dialect, selector.as_str());
+    }
+    let [first, dialect, script, names @ ..] = words else {
+        return Form::Other;
+    };
+    if first.as_str() != "run" {
+        return Form::Other;
+    }
+    let Some(dialect) = dialect_of(dialect.as_str()) else {
+        return Form::Other;
+    };
+    Form::Run(dialect, script.as_str(), names)
+}

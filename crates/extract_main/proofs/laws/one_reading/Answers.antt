@@ -1,5 +1,0 @@
-use Rattle.extract_main.proofs.Readings.{one_reading}
-use Rattle.extract_main.proofs.laws.one_reading.Goals as goal
-
-pub returns : goal.returns
-returns c = one_reading

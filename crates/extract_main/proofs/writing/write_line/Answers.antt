@@ -1,5 +1,0 @@
-use Rattle.extract_main.proofs.OutputLemmas.{part_of_nothing}
-use Rattle.extract_main.proofs.writing.write_line.Goals as goal
-
-pub returns-in-Err-clause-err : goal.returns-in-Err-clause-err
-returns-in-Err-clause-err g c = part_of_nothing (g.W.Sink.taken c.args.sink.now) _
