@@ -6,6 +6,3 @@ mod tree;
 
 pub use grow::ArenaGrow;
 pub use tree::ArenaTree;
-
-#[cfg(test)]
-mod tests;

@@ -6,6 +6,3 @@ mod references;
 mod tables;
 
 pub use references::{decode_refs, reference};
-
-#[cfg(test)]
-mod tests;

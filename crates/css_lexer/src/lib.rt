@@ -11,6 +11,3 @@ mod tokens;
 pub use laws::one_list_or_fault;
 pub use lexer::css_tokens;
 pub use tokens::{CssKind, CssToken};
-
-#[cfg(test)]
-mod tests;

@@ -2,7 +2,6 @@ pub mod Bounds
 pub mod Equations
 pub mod Made
 pub mod Mapped
-mod TestSizes
 pub mod TextsAt
 pub mod Views
 pub mod WordsAt

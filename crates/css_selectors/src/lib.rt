@@ -4,8 +4,6 @@
 mod counts;
 mod laws;
 mod selector;
-#[cfg(test)]
-mod tests;
 
 pub use counts::specificity;
 pub use laws::worked_selectors;

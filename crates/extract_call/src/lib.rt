@@ -6,13 +6,7 @@ mod bulk;
 mod laws;
 mod page_lines;
 mod pages;
-#[cfg(test)]
-mod run_tests;
 mod status;
-#[cfg(test)]
-mod tested;
-#[cfg(test)]
-mod tests;
 mod top;
 mod words;
 mod writing;

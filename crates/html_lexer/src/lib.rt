@@ -16,6 +16,3 @@ pub use laws::{lexical_fault, one_attribute_list, one_reading, token_laws};
 pub use lexer::{Lexer, Token};
 pub use steps::{Step, TokenAt, step_at};
 pub use tags::{AttrStep, Attribute, attr_at, tag_end};
-
-#[cfg(test)]
-mod tests;

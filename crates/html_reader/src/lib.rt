@@ -21,6 +21,3 @@ mod token;
 
 pub use laws::{never_both, one_document, one_fault, one_full_word, one_page_reading};
 pub use page::read_html;
-
-#[cfg(test)]
-mod tests;

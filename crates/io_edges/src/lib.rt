@@ -13,8 +13,6 @@ mod shelf;
 mod sink;
 mod stdout_sink;
 mod sure_pages;
-#[cfg(test)]
-mod tests;
 mod write;
 
 pub use file_pages::FilePages;

@@ -4,8 +4,6 @@
 
 mod pages;
 mod selectors;
-#[cfg(test)]
-mod tests;
 
 pub use pages::{page_line, refused_line};
 pub use selectors::{css_line, reason_line};

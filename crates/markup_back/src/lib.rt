@@ -3,8 +3,6 @@
 #![tactic(auto)]
 
 mod laws;
-#[cfg(test)]
-mod tests;
 mod writing;
 
 pub use laws::canonical_builds;

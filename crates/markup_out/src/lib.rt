@@ -6,8 +6,6 @@ mod laws;
 mod names;
 mod output;
 mod tags;
-#[cfg(test)]
-mod tests;
 mod writing;
 
 pub use laws::markup_of_children;

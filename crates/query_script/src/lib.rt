@@ -10,8 +10,6 @@ mod parsing;
 mod queries;
 mod script;
 mod steps;
-#[cfg(test)]
-mod tests;
 
 pub use laws::{read_or_refused, reasons_of_fields};
 pub use parsing::parse_script;

@@ -8,8 +8,6 @@ mod entry;
 mod kinds;
 mod names;
 mod registry;
-#[cfg(test)]
-mod tests;
 
 pub use answers::{ends_with, has_word, near, same_folded};
 pub use asks::Asks;

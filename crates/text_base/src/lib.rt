@@ -22,6 +22,3 @@ pub use reasons::{PageFault, PageReason, ScriptFault, SelectorFault, XPathFault}
 pub use sqlite_items::{Boxed, Items as Seq};
 pub use txt::Txt;
 pub use words::words_of;
-
-#[cfg(test)]
-mod tests;

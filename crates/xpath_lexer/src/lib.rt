@@ -3,8 +3,6 @@
 
 mod laws;
 mod sizes;
-#[cfg(test)]
-mod tests;
 mod token;
 mod tokens;
 

@@ -15,8 +15,6 @@ mod refusal;
 mod shapes;
 mod term;
 mod terms;
-#[cfg(test)]
-mod tests;
 mod tiers;
 mod typed;
 mod whole;

@@ -4,8 +4,6 @@
 mod compares;
 mod numbers;
 mod reading;
-#[cfg(test)]
-mod tests;
 mod value;
 
 pub use compares::{compare_atoms, num_text};

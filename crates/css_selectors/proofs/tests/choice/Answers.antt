@@ -1,6 +1,0 @@
-use Rattle.std.proofs.Common.{◌∙◌}
-use Rattle.css_selectors.proofs.TestSizes.{pair}
-use Rattle.css_selectors.proofs.tests.choice.Goals as goal
-
-pub returns : goal.returns
-returns c = pair c.args.weight c.in_ok-y.y c.in_ok-x.x c.from_vec.result (c.from_vec.ensures ∙ c.in_ok-vec.ensures.items) c.in_ok-y.ensures c.in_ok-x.ensures

@@ -1,4 +1,0 @@
-use Rattle.markup_back.proofs.tests.rows_back.Goals as goal
-
-pub read_back-requires-clause-builds : goal.read_back-requires-clause-builds
-read_back-requires-clause-builds c = (c.args.page.now, (c.utf8.page, c.in-Ok.ensures.ok))

@@ -1,0 +1,15 @@
+//! Tests of XPath, of scripts and of their lines, through public calls: cases and answers from outside.
+#![tactic(auto)]
+
+#[cfg(test)]
+mod expressions;
+#[cfg(test)]
+mod lines;
+#[cfg(test)]
+mod scripts;
+#[cfg(test)]
+mod stored;
+#[cfg(test)]
+mod tokens;
+#[cfg(test)]
+mod values;

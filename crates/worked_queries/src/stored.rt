@@ -1,0 +1,77 @@
+//! Tests that are stored.
+use std::test::Fail;
+use test_registry::{AddFault, TestKind, Tests, ends_with, has_word, near, same_folded};
+
+/// What the test of that name answers, if there is one.
+fn asked(tests: &Tests, name: &str, a: &str, b: &str) -> Option<bool> {
+    match tests.find(name) {
+        Some(kind) => Some(tests.ask(kind, a, b)),
+        None => None,
+    }
+}
+
+#[test]
+fn asks_stored_tests(rt: HostRuntime) -> Result<(), Fail> {
+    let alloc = rt.alloc();
+    let mut tests = Tests::new(alloc);
+    let test: Box<dyn Fn(&str, &str) -> bool> = Box::new(
+        alloc,
+        |a: &str, b: &str| same_folded(a, b),
+    )?;
+    assert!(rt; tests.add("same", TestKind::SameFolded, test).is_ok());
+    let test: Box<dyn Fn(&str, &str) -> bool> = Box::new(
+        alloc,
+        |a: &str, b: &str| ends_with(a, b),
+    )?;
+    assert!(rt; tests.add("ends-with", TestKind::EndsWith, test).is_ok());
+    let test: Box<dyn Fn(&str, &str) -> bool> = Box::new(alloc, |a: &str, b: &str| has_word(a, b))?;
+    assert!(rt; tests.add("has-word", TestKind::HasWord, test).is_ok());
+    let most = 100u32;
+    let test: Box<dyn Fn(&str, &str) -> bool> = Box::new(
+        alloc,
+        move |a: &str, b: &str| near(most, a, b),
+    )?;
+    assert!(rt; tests.add("near", TestKind::Near(most), test).is_ok());
+    for (name, a, b, want) in [
+        ("same", "AbC", "aBc", Some(true)),
+        ("same", "é", "É", Some(false)),
+        ("ends-with", "abc", "", Some(true)),
+        ("ends-with", "abc", "ab", Some(false)),
+        ("has-word", "a b", "", Some(false)),
+        ("has-word", "a\tb", "b", Some(true)),
+        ("has-word", "a\u{c}b", "b", Some(false)),
+        ("near", "10", "110", Some(true)),
+        ("near", "9", "110", Some(false)),
+        ("near", "0000000005", "5", Some(false)),
+        ("near", "", "5", Some(false)),
+        ("nearby", "1", "2", None),
+    ] {
+        assert_eq!(rt; asked(&tests, name, a, b), want, "{name}");
+    }
+    Ok(())
+}
+
+#[test]
+fn refuses_names(rt: HostRuntime) -> Result<(), Fail> {
+    let alloc = rt.alloc();
+    let mut tests = Tests::new(alloc);
+    for (name, want) in [
+        ("same", Ok(())),
+        ("same", Err(AddFault::Known)),
+        ("Same", Ok(())),
+        ("count", Err(AddFault::BadName)),
+        ("processing-instruction", Err(AddFault::BadName)),
+        ("", Err(AddFault::BadName)),
+        ("1a", Err(AddFault::BadName)),
+        ("a:b", Err(AddFault::BadName)),
+        ("a b", Err(AddFault::BadName)),
+        ("_é-1.", Ok(())),
+    ] {
+        let test: Box<dyn Fn(&str, &str) -> bool> = Box::new(
+            alloc,
+            |a: &str, b: &str| same_folded(a, b),
+        )?;
+        assert_eq!(rt; tests.add(name, TestKind::SameFolded, test), want, "{name}");
+    }
+    Ok(())
+}

@@ -1,0 +1,11 @@
+//! Tests of whole runs, through the top call: cases and answers from outside.
+#![tactic(auto)]
+
+#[cfg(test)]
+mod faults;
+#[cfg(test)]
+mod runs;
+#[cfg(test)]
+mod selectors;
+#[cfg(test)]
+mod tested;
