@@ -92,8 +92,8 @@ fn failing_calls(rt: HostRuntime) -> Result<(), Fail> {
     Ok(())
 }
 
-/// How many bytes are written before the first write that does not end the run so: each write takes one byte, and the one after
-/// `n` bytes fails.
+/// The first number of bytes, if there is one, for which a run ends otherwise than by a write fault with exactly so many bytes
+/// written: each write takes one byte, and the one after so many fails.
 fn first_wrong_write(alloc: Global, line: &[u8]) -> Result<Option<usize>, NoMemory> {
     let mut fails = 0u64;
     for n in 0..line.len() {
