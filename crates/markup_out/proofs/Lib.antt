@@ -5,4 +5,3 @@ pub mod EscapeLemmas
 pub mod Levels
 pub mod NameLemmas
 pub mod OpenRows
-pub mod TestRows

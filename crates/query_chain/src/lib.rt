@@ -16,6 +16,3 @@ mod steps;
 pub use laws::{a_value, one_value};
 pub use ready::{Ready, prepare};
 pub use run::{run_field, run_ready_at};
-
-#[cfg(test)]
-mod tests;

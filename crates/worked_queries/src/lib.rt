@@ -2,7 +2,13 @@
 #![tactic(auto)]
 
 #[cfg(test)]
+mod chains;
+#[cfg(test)]
+mod evaluation;
+#[cfg(test)]
 mod expressions;
+#[cfg(test)]
+mod functions;
 #[cfg(test)]
 mod lines;
 #[cfg(test)]

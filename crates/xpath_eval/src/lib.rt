@@ -34,6 +34,3 @@ mod tests_of_rows;
 mod top;
 
 pub use top::{eval, eval_with};
-
-#[cfg(test)]
-mod tests;

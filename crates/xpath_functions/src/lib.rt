@@ -14,8 +14,6 @@ mod numbers;
 mod parts;
 mod sets;
 mod strings;
-#[cfg(test)]
-mod tests;
 mod texts;
 
 pub use calls::{call, call_with};

@@ -1,33 +1,27 @@
-ghost use Rattle.std.specs.Prelude.{◌≡◌};
-ghost use Rattle.doc_model.specs.Growing.{fresh};
-
-use super::*;
-use doc_model::{Grow, Piece, Plain, Tree, VecGrow};
+//! The values of expressions on a small document.
+use doc_model::{Axes, Plain};
 use std::alloc::Global;
 use std::test::Fail;
 use test_registry::{TestKind, Tests, ends_with, has_word, near, same_folded};
 use text_base::NoMemory;
+use worked_trees::{Step, tree_of};
+use xpath_eval::{eval, eval_with};
 use xpath_parser::{parse_xpath, parse_xpath_with};
 use xpath_values::{Value, XNum};
 
-/// Builds the document of `<div><p>a</p><ul><li>b</li></ul></div>`.
-fn build<'p, G: Grow<'p> + Drop>(grow: G) -> Result<G::Done, NoMemory>
-    requires { G.growing grow ≡ fresh }
-{
-    let mut grow = grow;
-    grow.element(Piece::Made("div"))?;
-    grow.element(Piece::Made("p"))?;
-    grow.text(Piece::Page("a"))?;
-    grow.close();
-    grow.element(Piece::Made("ul"))?;
-    grow.element(Piece::Made("li"))?;
-    grow.text(Piece::Page("b"))?;
-    grow.close();
-    grow.close();
-    grow.close();
-    grow.finish()
-}
+/// `<div><p>a</p><ul><li>b</li></ul></div>`
+const PAGE: [Step; 8] = [
+    Step::Start("div", "", "", ""),
+    Step::Start("p", "", "", "a"),
+    Step::End,
+    Step::Start("ul", "", "", ""),
+    Step::Start("li", "", "", "b"),
+    Step::End,
+    Step::End,
+    Step::End,
+];
 
+/// The value as text.
 fn shown(alloc: Global, value: &Value) -> Result<String, NoMemory> {
     match value {
         Value::Bool(truth) => Ok(format!(in alloc; "{truth}")?),
@@ -39,11 +33,7 @@ fn shown(alloc: Global, value: &Value) -> Result<String, NoMemory> {
 }
 
 /// What an XPath text gives from the root node.
-fn from_root<S: doc_model::Axes>(
-    alloc: Global,
-    source: &S,
-    text: &str,
-) -> Result<String, NoMemory> {
+fn from_root<S: Axes>(alloc: Global, source: &S, text: &str) -> Result<String, NoMemory> {
     let Ok(typed) = parse_xpath(alloc, text) else {
         return Ok(String::from_str(alloc, "refused")?);
     };
@@ -57,7 +47,7 @@ fn from_root<S: doc_model::Axes>(
 #[test]
 fn gives_values(rt: HostRuntime) {
     let alloc = rt.alloc();
-    let page = Plain::new(build(VecGrow::new(alloc)).expect(&rt, "memory"));
+    let page = Plain::new(tree_of(alloc, &PAGE[..]).expect(&rt, "memory"));
     for (text, want) in [
         ("name(//li/ancestor::*[1])", "'ul'"),
         ("//li/preceding::*[1]", "[2]"),
@@ -75,7 +65,7 @@ fn gives_values(rt: HostRuntime) {
 }
 
 /// The same where tests are stored.
-fn from_root_with<S: doc_model::Axes>(
+fn from_root_with<S: Axes>(
     alloc: Global,
     source: &S,
     text: &str,
@@ -94,7 +84,7 @@ fn from_root_with<S: doc_model::Axes>(
 #[test]
 fn asks_stored_tests(rt: HostRuntime) -> Result<(), Fail> {
     let alloc = rt.alloc();
-    let page = Plain::new(build(VecGrow::new(alloc)).expect(&rt, "memory"));
+    let page = Plain::new(tree_of(alloc, &PAGE[..]).expect(&rt, "memory"));
     let mut tests = Tests::new(alloc);
     let test: Box<dyn Fn(&str, &str) -> bool> = Box::new(
         alloc,
@@ -149,7 +139,7 @@ fn around(alloc: Global, times: u32, front: &str, back: &str) -> Result<String, 
 #[test]
 fn gives_values_of_long_texts(rt: HostRuntime) {
     let alloc = rt.alloc();
-    let page = Plain::new(build(VecGrow::new(alloc)).expect(&rt, "memory"));
+    let page = Plain::new(tree_of(alloc, &PAGE[..]).expect(&rt, "memory"));
     for (times, front, back) in [(64, "(", ")"), (100_000, "-", "")] {
         let text = around(alloc, times, front, back).expect(&rt, "memory");
         let got = from_root(alloc, &page, text.as_str()).expect(&rt, "memory");

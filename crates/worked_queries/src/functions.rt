@@ -1,35 +1,27 @@
+//! The functions of XPath, comparisons and conversions, on a small document.
 ghost use Rattle.std.specs.Prelude.{◌≡◌, ◌<◌, None, IsTrue};
 ghost use Rattle.std.specs.List.{All};
-ghost use Rattle.doc_model.specs.Growing.{fresh};
 ghost use Rattle.xpath_parser.specs.Asking.{stored_kind};
 ghost use Rattle.xpath_parser.specs.Conversions.{rows_of};
 
-use crate::{call, fits, number_of, text_of, truth_of};
-use doc_model::{Grow, Piece, Tree, VecGrow, VecTree};
+use doc_model::{Tree, VecTree};
 use std::alloc::Global;
 use std::test::Fail;
 use text_base::{NoMemory, Seq, Txt};
+use worked_trees::{Step, tree_of};
+use xpath_functions::{call, fits, number_of, text_of, truth_of};
 use xpath_parser::Func;
 use xpath_values::{Compare, Value, XNum};
 
-/// The document of `<div xml:lang="en-GB"><p id="b">1</p><p id="b">x</p></div>`.
-fn build<'p, G: Grow<'p> + Drop>(grow: G) -> Result<G::Done, NoMemory>
-    requires { G.growing grow ≡ fresh }
-{
-    let mut grow = grow;
-    grow.element(Piece::Made("div"))?;
-    grow.attr(Piece::Made("xml:lang"), Piece::Made("en-GB"))?;
-    grow.element(Piece::Made("p"))?;
-    grow.attr(Piece::Made("id"), Piece::Made("b"))?;
-    grow.text(Piece::Made("1"))?;
-    grow.close();
-    grow.element(Piece::Made("p"))?;
-    grow.attr(Piece::Made("id"), Piece::Made("b"))?;
-    grow.text(Piece::Made("x"))?;
-    grow.close();
-    grow.close();
-    grow.finish()
-}
+/// `<div xml:lang="en-GB"><p id="b">1</p><p id="b">x</p></div>`
+const PAGE: [Step; 6] = [
+    Step::Start("div", "xml:lang", "en-GB", ""),
+    Step::Start("p", "id", "b", "1"),
+    Step::End,
+    Step::Start("p", "id", "b", "x"),
+    Step::End,
+    Step::End,
+];
 
 /// An argument of a test.
 #[derive(Clone, Copy)]
@@ -268,7 +260,7 @@ const NUMBERS: [(Func, &[Arg], u32, &str); 15] = [
 #[test]
 fn calls_functions(rt: HostRuntime) -> Result<(), Fail> {
     let alloc = rt.alloc();
-    let tree = build(VecGrow::new(alloc)).expect(&rt, "memory");
+    let tree = tree_of(alloc, &PAGE[..]).expect(&rt, "memory");
     for table in [&NODES[..], &STRINGS[..], &NUMBERS[..]] {
         for (func, args, node, want) in table {
             let text = called(alloc, &tree, *func, args, *node).expect(&rt, "memory");
@@ -291,7 +283,7 @@ fn compared(alloc: Global, tree: &VecTree, op: Compare, a: Arg, b: Arg) -> Resul
 #[test]
 fn compares_values(rt: HostRuntime) -> Result<(), Fail> {
     let alloc = rt.alloc();
-    let tree = build(VecGrow::new(alloc)).expect(&rt, "memory");
+    let tree = tree_of(alloc, &PAGE[..]).expect(&rt, "memory");
     for (op, a, b, want) in [
         (Compare::Equal, Arg::NaN, Arg::NaN, false),
         (Compare::Unequal, Arg::NaN, Arg::NaN, true),
@@ -327,7 +319,7 @@ fn compares_values(rt: HostRuntime) -> Result<(), Fail> {
 #[test]
 fn converts_values(rt: HostRuntime) -> Result<(), Fail> {
     let alloc = rt.alloc();
-    let tree = build(VecGrow::new(alloc)).expect(&rt, "memory");
+    let tree = tree_of(alloc, &PAGE[..]).expect(&rt, "memory");
     let rows = value(alloc, Arg::Rows(&[3, 6])).expect(&rt, "memory");
     assert_eq!(rt; truth_of(&rows), true);
     if is_within(tree.len(), &rows) {

@@ -1,89 +1,14 @@
-ghost use Rattle.std.specs.Prelude.{◌≡◌, ◌+◌, ◌<◌, ◌≤◌, length, OnOk};
-ghost use Rattle.doc_model.specs.Growing.{AwaitsText};
+//! The values of fields, on small documents.
 ghost use Rattle.query_script.specs.Ordered.{IsOrdered};
 
-use crate::{prepare, run_field, run_ready_at};
 use css_selectors::Dialect;
-use doc_model::{Axes, Grow, Piece, Plain, VecGrow, VecTree};
+use doc_model::{Axes, Plain};
+use query_chain::{prepare, run_field, run_ready_at};
 use query_script::{Field, FieldValue, parse_script};
 use std::alloc::Global;
 use std::test::Fail;
 use text_base::{NoMemory, Txt};
-
-/// A part of a page: a start tag with at most one attribute and the text behind it, or an end tag.
-#[derive(Clone, Copy)]
-enum Step {
-    Start(&'static str, &'static str, &'static str, &'static str),
-    End,
-}
-
-/// An element with an attribute, where it has a name.
-fn start_tag(
-    grow: &mut VecGrow,
-    name: &'static str,
-    attr: &'static str,
-    value: &'static str,
-) -> Result<(), NoMemory>
-    requires { length (⟦<VecGrow as Grow<'static>>⟧.growing grow.old).rows < 10000 }
-    ensures awaits { OnOk result (AwaitsText (⟦<VecGrow as Grow<'static>>⟧.growing grow.new)) }
-    ensures rows { OnOk result (length (⟦<VecGrow as Grow<'static>>⟧.growing grow.new).rows ≤ length (⟦<VecGrow as Grow<'static>>⟧.growing grow.old).rows + 2) }
-    ensures open_rows { OnOk result (length (⟦<VecGrow as Grow<'static>>⟧.growing grow.new).open_rows ≡ length (⟦<VecGrow as Grow<'static>>⟧.growing grow.old).open_rows + 1) }
-{
-    if name.is_empty() {
-        return Err(NoMemory);
-    }
-    grow.element(Piece::Page(name))?;
-    if attr.is_empty() {
-        return Ok(());
-    }
-    grow.attr(Piece::Made(attr), Piece::Page(value))
-}
-
-/// An element as above, with the text behind its start tag, where it is not empty.
-fn start(
-    grow: &mut VecGrow,
-    name: &'static str,
-    attr: &'static str,
-    value: &'static str,
-    text: &'static str,
-) -> Result<(), NoMemory>
-    requires { length (⟦<VecGrow as Grow<'static>>⟧.growing grow.old).rows < 10000 }
-    ensures rows { OnOk result (length (⟦<VecGrow as Grow<'static>>⟧.growing grow.new).rows ≤ length (⟦<VecGrow as Grow<'static>>⟧.growing grow.old).rows + 3) }
-    ensures open_rows { OnOk result (length (⟦<VecGrow as Grow<'static>>⟧.growing grow.new).open_rows ≡ length (⟦<VecGrow as Grow<'static>>⟧.growing grow.old).open_rows + 1) }
-{
-    start_tag(grow, name, attr, value)?;
-    if text.is_empty() {
-        return Ok(());
-    }
-    grow.text(Piece::Page(text))
-}
-
-/// The document of the steps. Each element's text stands behind its start tag.
-fn build(alloc: Global, steps: &[Step]) -> Result<VecTree, NoMemory>
-    requires { length steps.now < 3000 }
-{
-    let mut grow = VecGrow::new(alloc);
-    let mut depth = 0u32;
-    for step in steps {
-        match *step {
-            Step::Start(name, attr, value, text) => {
-                start(&mut grow, name, attr, value, text)?;
-                depth += 1;
-            }
-            Step::End => {
-                if depth == 0 {
-                    return Err(NoMemory);
-                }
-                grow.close();
-                depth -= 1;
-            }
-        }
-    }
-    if depth > 0 {
-        return Err(NoMemory);
-    }
-    grow.finish()
-}
+use worked_trees::{Step, tree_of};
 
 /// Adds texts, each behind a `|`.
 fn push_texts(texts: &[Txt], out: &mut String) -> Result<(), NoMemory> {
@@ -119,10 +44,7 @@ fn values<S: Axes>(alloc: Global, page: &S, script: &str) -> Result<String, NoMe
 
 /// The values of a script on a page.
 fn run(alloc: Global, steps: &[Step], script: &str) -> Result<String, NoMemory> {
-    if steps.len() >= 3000 {
-        return Err(NoMemory);
-    }
-    let page = Plain::new(build(alloc, steps)?);
+    let page = Plain::new(tree_of(alloc, steps)?);
     values(alloc, &page, script)
 }
 
@@ -243,8 +165,8 @@ fn values_of_one<S: Axes>(
 #[test]
 fn serves_each_page_and_row(rt: HostRuntime) -> Result<(), Fail> {
     let alloc = rt.alloc();
-    let first = Plain::new(build(alloc, &NESTED[..])?);
-    let second = Plain::new(build(alloc, &NEXT[..])?);
+    let first = Plain::new(tree_of(alloc, &NESTED[..])?);
+    let second = Plain::new(tree_of(alloc, &NEXT[..])?);
     let Ok(script) = parse_script(
         alloc,
         Dialect::Html,
