@@ -8,6 +8,9 @@ use Rattle.regex.specs.declared.string.regex.Regex.{Regex}
 use Rattle.query_script.specs.declared.script.ChainStep.{ChainStep}
 use Rattle.query_script.specs.declared.script.ChainStep.TheVariants as step
 use Rattle.query_script.specs.Ordered.{AreOrdered}
+use Rattle.xpath_parser.specs.Typed.{expression}
+use Rattle.xpath_parser.proofs.Asked.{asks_only}
+use Rattle.xpath_parser.proofs.Asking.{asks_none}
 use Rattle.query_chain.specs.declared.ready_steps.ReadyStep.{ReadyStep}
 use Rattle.query_chain.specs.declared.ready_steps.ReadyStep.TheVariants as ready
 use Rattle.query_chain.specs.Built.{Stands, IsBuilt}
@@ -51,7 +54,7 @@ actions_of (s ∷ steps) [] h = absurd h
 actions_of (s ∷ steps) (r ∷ rs) h = (one_action s r h.0, actions_of steps rs h.1)
 
 one_usable : (s : ChainStep) (r : ReadyStep) → IsReady s r → IsUsable r
-one_usable (step.Query query) (ready.Query typed) h = tt
+one_usable (step.Query query) (ready.Query typed) h = asks_none (expression typed) (asks_only [] (encode_utf8_all query) (expression typed) h)
 one_usable (step.Query query) (ready.Match regex) h = absurd h
 one_usable (step.Match pattern) (ready.Query typed) h = absurd h
 one_usable (step.Match pattern) (ready.Match regex) h = subst (λ source. IsBuilt source regex) (sym h.0) h.1

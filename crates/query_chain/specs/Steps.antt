@@ -2,6 +2,7 @@
 use Rattle.std.specs.Prelude.{◌≡◌, ℕ, ◌<◌, List, [], ◌∷◌, map, length, All}
 use Rattle.std.specs.Str.{chars}
 use Rattle.doc_model.specs.Document.{Document}
+use Rattle.xpath_parser.specs.Asking.{AsksNone}
 use Rattle.xpath_parser.specs.Typed.{expression}
 use Rattle.query_script.specs.declared.script.FieldValue.{FieldValue}
 use Rattle.query_script.specs.declared.script.FieldValue.TheVariants as value
@@ -35,8 +36,9 @@ abbrev pub action_of : ReadyStep → Action
 action_of (ready.Query typed) = select (expression typed)
 action_of (ready.Match regex) = search (chars (regex_source regex))
 
+-- a query calls no stored test, and a pattern is built
 abbrev pub IsUsable : ReadyStep → Type 0
-IsUsable (ready.Query typed) = Unit {0}
+IsUsable (ready.Query typed) = AsksNone (expression typed)
 IsUsable (ready.Match regex) = IsBuilt (chars (regex_source regex)) regex
 
 -- why it was stopped, which is the first of the limits that are passed

@@ -5,6 +5,7 @@ ghost use Rattle.xpath_values.specs.Strings as strings_of;
 ghost use Rattle.xpath_values.specs.declared.value.XNum.TheVariants.{Whole};
 ghost use Rattle.xpath_parser.specs.Conversions as spec;
 ghost use Rattle.xpath_parser.specs.Shapes.{shape_of, is_nodes};
+ghost use Rattle.xpath_parser.specs.Asking.{AsksNone};
 ghost use Rattle.xpath_parser.specs.Typed.{expression};
 ghost use Rattle.query_chain.specs.Chains.{select, step_items, value_items};
 ghost use Rattle.query_chain.specs.Items.{node, text, strings, bytes_of};
@@ -119,6 +120,7 @@ pub fn select_rows<S: Axes>(
 ) -> Result<Vec<u32>, Stop>
     requires rows { AreRowsOf (S.document source.now) rows.now }
     requires shape { is_nodes (shape_of (expression query.now)) ≡ true }
+    requires tests { AsksNone (expression query.now) }
     ensures items { IfOk result (λ v. map node v.items ≡ step_items (S.document source.now) (select (expression query.now)) (map node rows.now)) }
     ensures below { IfOk result (λ v. AreRowsOf (S.document source.now) v.items) }
     ensures few { IfOk result (λ v. length v.items ≤ limits.items) }
@@ -143,6 +145,7 @@ pub fn select_texts<S: Axes>(
 ) -> Result<Vec<Txt>, Stop>
     requires rows { AreRowsOf (S.document source.now) rows.now }
     requires shape { is_nodes (shape_of (expression query.now)) ≡ false }
+    requires tests { AsksNone (expression query.now) }
     ensures items { IfOk result (λ v. map text v.items ≡ step_items (S.document source.now) (select (expression query.now)) (map node rows.now)) }
     ensures within { IfOk result (λ v. bytes_of v.items ≤ limits.bytes) }
     ensures over { IsErrOf result Stop.Output → limits.bytes < bytes_of (strings (step_items (S.document source.now) (select (expression query.now)) (map node rows.now))) }

@@ -2,6 +2,7 @@
 ghost use Rattle.std.specs.Prelude.{◌≡◌, ◌≤◌, ◌<◌, [], ◌∷◌, map, length, All, IfOk, IfErr};
 ghost use Rattle.std.specs.Str.{chars};
 ghost use Rattle.regex.specs.Strings.{regex_source};
+ghost use Rattle.xpath_parser.specs.Asking.{AsksNone};
 ghost use Rattle.xpath_parser.specs.Shapes.{shape_of, is_nodes};
 ghost use Rattle.xpath_parser.specs.Typed.{expression};
 ghost use Rattle.query_chain.specs.Built.{IsBuilt};
@@ -43,6 +44,7 @@ fn select<S: Axes>(
 ) -> Result<Items, Stop>
     requires within { AreRowsOf (S.document source.now) rows.now }
     requires few { length rows.now ≤ limits.items }
+    requires tests { AsksNone (expression query.now) }
     ensures items { IfOk result (λ v. items_of v ≡ step_items (S.document source.now) (spec.select (expression query.now)) (map node rows.now)) }
     ensures passes { IfOk result (λ v. step_passes limits (S.document source.now) (spec.select (expression query.now)) (map node rows.now) ≡ []) }
     ensures within { IfOk result (AreIn (S.document source.now)) }
@@ -67,6 +69,7 @@ fn select_items<S: Axes>(
 ) -> Result<Items, Stop>
     requires within { AreIn (S.document source.now) items }
     requires few { length (items_of items) ≤ limits.items }
+    requires tests { AsksNone (expression query.now) }
     ensures items { IfOk result (λ v. items_of v ≡ step_items (S.document source.now) (spec.select (expression query.now)) (items_of items)) }
     ensures passes { IfOk result (λ v. step_passes limits (S.document source.now) (spec.select (expression query.now)) (items_of items) ≡ []) }
     ensures within { IfOk result (AreIn (S.document source.now)) }
