@@ -1,6 +1,6 @@
 -- How found texts grow.
-use Rattle.std.proofs.Common.{◌≡◌, ℕ, ◌+◌, ◌-◌, ◌<◌, ◌≤◌, ◌++◌, Bool, true, false, List, [], ◌∷◌, length, refl, sym, ◌∙◌, ap, subst, arith, inl, inr, append_assoc, encode_utf8_all}
-use Rattle.std.specs.Prelude.{◌⊎◌, sum_by}
+use Rattle.std.proofs.Common.{◌≡◌, ℕ, ◌+◌, ◌-◌, ◌<◌, ◌≤◌, ◌++◌, Bool, true, false, List, [], ◌∷◌, length, refl, sym, ◌∙◌, ap, arith, inl, inr, append_assoc, encode_utf8_all}
+use Rattle.std.specs.Prelude.{◌⊎◌}
 use Rattle.std.specs.Str.{chars, IsUtf8}
 use Rattle.std.proofs.lemmas.List.{append-nil, length-append}
 use Rattle.std.proofs.lemmas.List.Sums.{sum_by-append}
@@ -8,7 +8,7 @@ use Rattle.text_base.proofs.Text.{encode-chars}
 use Rattle.query_chain.specs.declared.limits.Limits.{Limits}
 use Rattle.query_chain.specs.declared.found.Found.{Found}
 use Rattle.query_chain.specs.Items.{bytes_of}
-use Rattle.query_chain.specs.Found.{IsNew, Adds}
+use Rattle.query_chain.specs.Found.{Adds}
 
 pub bytes-append : (xs ys : List (List ℕ)) → bytes_of (xs ++ ys) ≡ bytes_of xs + bytes_of ys
 bytes-append xs ys = sum_by-append (λ t. length (encode_utf8_all t)) xs ys

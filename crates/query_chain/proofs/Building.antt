@@ -1,6 +1,6 @@
 -- What a build says of the pattern.
-use Rattle.std.proofs.Common.{◌≡◌, ◌≢◌, ℕ, ◌<◌, ◌≤◌, Bool, true, false, List, Option, Some, None, chars, length, refl, inl, inr, sym, ap, arith, le-leb}
-use Rattle.std.specs.Prelude.{IsSomeAnd, IfSome, ◌⊎◌, nat_le}
+use Rattle.std.proofs.Common.{◌≡◌, ◌≢◌, ℕ, ◌<◌, ◌≤◌, true, false, List, Option, Some, None, chars, length, refl, inl, inr, ap, le-leb}
+use Rattle.std.specs.Prelude.{IsSomeAnd, IfSome, nat_le}
 use Rattle.std.proofs.lemmas.Bool.{lt-leb}
 use Rattle.std.specs.Option.{option_and_then}
 use Rattle.regex_syntax.specs.Brackets.{Nested}

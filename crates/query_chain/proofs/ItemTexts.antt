@@ -1,9 +1,8 @@
 -- The texts of rows.
-use Rattle.std.proofs.Common.{◌≡◌, ℕ, ◌+◌, ◌<◌, ◌≤◌, ◌++◌, ◌∙◌, List, [], ◌∷◌, map, length, take, get_or, refl, sym, ap, arith, encode_utf8_all}
+use Rattle.std.proofs.Common.{◌≡◌, ℕ, ◌+◌, ◌<◌, ◌++◌, ◌∙◌, List, [], ◌∷◌, map, length, take, get_or, refl, sym, ap, arith, encode_utf8_all}
 use Rattle.doc_model.specs.Document.{Document, row}
 use Rattle.query_chain.specs.Chains.{row_text, item_texts}
 use Rattle.query_chain.specs.Items.{node, text, bytes_of}
-use Rattle.query_chain.proofs.Adding.{bytes-append}
 use Rattle.query_chain.proofs.Lists.{bytes_part, map_more}
 
 abbrev pub row_texts : Document → List ℕ → List (List ℕ)

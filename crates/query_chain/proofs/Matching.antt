@@ -1,16 +1,15 @@
 -- The texts of matches, one match and one group after the other.
-use Rattle.std.proofs.Common.{◌≡◌, ℕ, suc, ◌+◌, ◌-◌, ◌<◌, ◌≤◌, ◌++◌, true, false, List, [], ◌∷◌, Option, Some, None, map, length, refl, sym, ◌∙◌, ap, subst, arith, le-leb, append_assoc}
+use Rattle.std.proofs.Common.{◌≡◌, ℕ, ◌+◌, ◌-◌, ◌<◌, ◌≤◌, ◌++◌, true, false, List, [], ◌∷◌, Option, Some, None, map, length, refl, sym, ◌∙◌, ap, subst, arith, le-leb, append_assoc}
 use Rattle.std.proofs.lemmas.Bool.{lt-leb}
-use Rattle.std.specs.Prelude.{slice_range, nat_le, if◌then◌else◌}
+use Rattle.std.specs.Prelude.{slice_range, nat_le}
 use Rattle.std.specs.Str.{chars}
 use Rattle.std.specs.List.{flat_map, range_with_len}
 use Rattle.std.specs.Option.{option_map_or}
 use Rattle.std.proofs.lemmas.List.{map-append, append-nil, length-map, length-append}
 use Rattle.std.proofs.lemmas.Option.{same_Some}
 use Rattle.std.proofs.lemmas.List.FromFn.{map-range_with_len_more, length-map-range_with_len}
-use Rattle.regex.specs.Patterns.{Re, Match, find_str, find_all_str, span}
+use Rattle.regex.specs.Patterns.{Re, Match, find_str}
 use Rattle.regex.specs.Search.{next_match, matches_after, group_span}
-use Rattle.regex.specs.Writes.{group_of}
 use Rattle.regex.specs.Strings.{captures_span, captures_haystack, match_span, IsCapturesOf}
 use Rattle.regex.specs.declared.string.captures.Captures.{Captures}
 use Rattle.regex.proofs.SearchLemmas.{matches_after_none, matches_after_some, matches_after_text}

@@ -1,7 +1,6 @@
 -- Steps that are read and built one after the other.
-use Rattle.std.proofs.Common.{◌≡◌, ℕ, zero, suc, ◌+◌, ◌<◌, ◌≤◌, ◌++◌, Bool, true, false, List, [], ◌∷◌, length, take, get_or, map, refl, sym, ◌∙◌, ap, ap₂, subst, arith, is_some}
+use Rattle.std.proofs.Common.{◌≡◌, ℕ, zero, suc, ◌+◌, ◌<◌, ◌≤◌, ◌++◌, Bool, true, false, List, [], ◌∷◌, length, take, get_or, map, refl, sym, ◌∙◌, ap, subst, arith, is_some}
 use Rattle.std.specs.Prelude.{All, IsSomeAnd, Option, Some, None, encode_utf8_all}
-use Rattle.std.specs.Str.{chars}
 use Rattle.std.specs.List.{AllByRecursion}
 use Rattle.std.proofs.lemmas.List.{take_more, take_all}
 use Rattle.regex.specs.declared.string.regex.Regex.{Regex}
@@ -14,7 +13,7 @@ use Rattle.xpath_parser.proofs.Asking.{asks_none}
 use Rattle.query_chain.specs.declared.ready_steps.ReadyStep.{ReadyStep}
 use Rattle.query_chain.specs.declared.ready_steps.ReadyStep.TheVariants as ready
 use Rattle.query_chain.specs.Built.{Stands, IsBuilt}
-use Rattle.query_chain.specs.Chains.{Action, select, search, is_pattern, IsAction, AreActions}
+use Rattle.query_chain.specs.Chains.{IsAction, AreActions}
 use Rattle.query_chain.specs.Patterns.{Pattern, pattern_of}
 use Rattle.query_chain.specs.Readiness.{IsReadable, IsReady, AreReady}
 use Rattle.query_chain.specs.Steps.{action_of, IsUsable}

@@ -1,10 +1,10 @@
 -- What the matches of a built pattern are, in the words of its text.
-use Rattle.std.proofs.Common.{◌≡◌, ℕ, suc, ◌+◌, ◌-◌, ◌*◌, ◌<◌, ◌≤◌, ◌++◌, Bool, true, false, List, [], ◌∷◌, Option, Some, None, map, length, take, drop, get_or, refl, sym, ◌∙◌, ap, subst, arith, inl, inr, encode_utf8_all, ⊎_elim}
+use Rattle.std.proofs.Common.{◌≡◌, ℕ, suc, ◌+◌, ◌-◌, ◌*◌, ◌<◌, ◌≤◌, ◌++◌, true, false, List, [], ◌∷◌, Option, Some, None, map, length, take, drop, get_or, refl, sym, ◌∙◌, ap, subst, arith, inl, inr, encode_utf8_all}
 use Rattle.std.specs.Prelude.{slice_range, if◌then◌else◌, nat_le, IsSomeAnd, flat_map, ◌⊎◌}
 use Rattle.std.specs.List.{range_with_len}
 use Rattle.std.specs.Option.{option_map_or}
 use Rattle.std.specs.Str.{chars}
-use Rattle.std.proofs.lemmas.List.{length-append, length-map, append-nil, take_all}
+use Rattle.std.proofs.lemmas.List.{length-append, take_all}
 use Rattle.regex.specs.Patterns.{Re, Match, find_all_str, SameCaptures}
 use Rattle.regex.specs.Writes.{both}
 use Rattle.regex.specs.Strings.{regex_pattern, regex_names}

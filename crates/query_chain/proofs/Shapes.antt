@@ -5,7 +5,6 @@ use Rattle.std.specs.Prelude.{◌&&◌, if◌then◌else◌, ◌==◌}
 use Rattle.std.specs.List.{list_all}
 use Rattle.std.proofs.Math.Logic.{∥∥₁_elim}
 use Rattle.doc_model.specs.Document.{Document}
-use Rattle.xpath_values.specs.declared.value.Shape.TheVariants as shape
 use Rattle.xpath_values.specs.declared.value.Value.{Value}
 use Rattle.xpath_parser.specs.declared.expression.Func.{Func}
 use Rattle.xpath_parser.specs.declared.expression.Func.TheVariants as f

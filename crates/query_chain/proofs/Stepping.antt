@@ -1,17 +1,16 @@
 -- Which limits a step passes.
-use Rattle.std.proofs.Common.{◌≡◌, ℕ, ◌+◌, ◌<◌, ◌≤◌, ◌++◌, Bool, true, false, List, [], ◌∷◌, map, length, refl, sym, ◌∙◌, ap, subst, arith}
+use Rattle.std.proofs.Common.{◌≡◌, ℕ, ◌<◌, ◌≤◌, ◌++◌, Bool, true, false, List, [], ◌∷◌, map, length, refl, sym, ◌∙◌, ap, subst, arith}
 use Rattle.std.specs.Prelude.{nat_lt, flat_map}
-use Rattle.std.proofs.lemmas.List.{length-map, append-nil, map-append}
+use Rattle.std.proofs.lemmas.List.{length-map, map-append}
 use Rattle.xpath_parser.specs.declared.expression.Expr.{Expr}
 use Rattle.doc_model.specs.Document.{Document}
 use Rattle.query_script.specs.declared.script.FieldValue.{FieldValue}
-use Rattle.query_script.specs.declared.script.FieldValue.TheVariants as value
 use Rattle.query_script.specs.declared.script.Reason.{Reason}
 use Rattle.query_script.specs.declared.script.Reason.TheVariants as reason
 use Rattle.query_chain.specs.declared.limits.Limits.{Limits}
 use Rattle.query_chain.specs.declared.limits.Stop.{Stop}
 use Rattle.query_chain.specs.declared.limits.Stop.TheVariants.{Selection, Output, Memory}
-use Rattle.query_chain.specs.Chains.{Action, select, search, gives, step_items, searched, item_text, item_texts, if_passed, is_over, step_passes, steps_pass, end_passes, first_reason, last_items, taken_texts, value_of, answer}
+use Rattle.query_chain.specs.Chains.{Action, select, search, step_items, searched, item_text, item_texts, if_passed, is_over, step_passes, steps_pass, end_passes, first_reason, last_items, taken_texts, value_of, answer}
 use Rattle.query_chain.specs.Items.{Item, node, text, strings, bytes_of}
 use Rattle.query_chain.specs.Steps.{IsFirst, IsStopOf}
 use Rattle.query_chain.specs.Patterns.{found_texts}

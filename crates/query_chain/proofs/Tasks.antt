@@ -1,12 +1,11 @@
 -- What a task says of the value of a field.
-use Rattle.std.proofs.Common.{◌≡◌, ℕ, refl, ap, ◌∙◌, subst, sym, inl, inr, List, map}
+use Rattle.std.proofs.Common.{◌≡◌, ℕ, ap, ◌∙◌, inl, inr}
 use Rattle.doc_model.specs.Document.{Document}
 use Rattle.query_script.specs.declared.script.Chain.{Chain}
 use Rattle.query_script.specs.declared.script.Chain.TheVariants as chain
-use Rattle.query_script.specs.declared.script.ChainStep.{ChainStep}
 use Rattle.query_script.specs.declared.script.FieldValue.{FieldValue}
 use Rattle.query_script.specs.declared.script.FieldValue.TheVariants as value
-use Rattle.query_chain.specs.Chains.{Action, AreActions, answer, field_limits, IsChainValue}
+use Rattle.query_chain.specs.Chains.{answer, field_limits, IsChainValue}
 use Rattle.query_chain.specs.Tasks.{Task, refuses, does, IsChainTask, outcome}
 
 -- the outcome of a chain's task is the chain's value

@@ -1,11 +1,9 @@
 -- A field has one value on a document.
 use Rattle.std.proofs.Common.{◌≡◌, ℕ, Bool, true, false, List, [], ◌∷◌, refl, sym, ◌∙◌, ap, ap₂}
-use Rattle.std.specs.Prelude.{◌⊎◌, not, ◌||◌, encode_utf8_all}
+use Rattle.std.specs.Prelude.{not, ◌||◌, encode_utf8_all}
 use Rattle.std.proofs.Common.{inl, inr}
 use Rattle.std.specs.List.{list_any}
 use Rattle.doc_model.specs.Document.{Document}
-use Rattle.xpath_parser.specs.declared.expression.Expr.{Expr}
-use Rattle.xpath_parser.specs.Reading.{ReadsAs}
 use Rattle.xpath_parser.proofs.Complete.{one_expression}
 use Rattle.query_script.specs.declared.script.Chain.{Chain}
 use Rattle.query_script.specs.declared.script.Chain.TheVariants as chain
@@ -15,7 +13,6 @@ use Rattle.query_script.specs.declared.script.Field.{Field}
 use Rattle.query_script.specs.declared.script.FieldValue.{FieldValue}
 use Rattle.query_script.specs.declared.script.FieldValue.TheVariants as value
 use Rattle.query_script.specs.declared.script.Reason.TheVariants as reason
-use Rattle.query_script.specs.declared.script.Take.{Take}
 use Rattle.query_script.specs.Ordered.{IsOrdered, IsOrderedChain, AreOrdered}
 use Rattle.query_chain.specs.declared.limits.Limits.{Limits}
 use Rattle.query_chain.specs.Chains.{Action, select, search, is_pattern, is_refused, IsAction, AreActions, IsChainValue, IsValue, answer}

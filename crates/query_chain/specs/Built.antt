@@ -1,7 +1,6 @@
 -- What a built pattern stands for.
-use Rattle.std.specs.Prelude.{◌≡◌, ℕ, List, length, Some, IsSomeAnd}
-use Rattle.std.specs.Str.{chars}
-use Rattle.regex.specs.Patterns.{Re, SameCaptures}
+use Rattle.std.specs.Prelude.{◌≡◌, ℕ, List, length, IsSomeAnd}
+use Rattle.regex.specs.Patterns.{SameCaptures}
 use Rattle.regex.specs.Strings.{regex_pattern, regex_names}
 use Rattle.regex.specs.declared.string.regex.Regex.{Regex}
 use Rattle.query_chain.specs.Patterns.{Pattern, pattern_of}

@@ -1,8 +1,5 @@
 -- The items of a chain.
 use Rattle.std.specs.Prelude.{ℕ, List, [], ◌∷◌, flat_map, sum_by, length, encode_utf8_all}
-use Rattle.doc_model.specs.Document.{Document, row}
-use Rattle.doc_model.specs.declared.Kind.{Kind}
-use Rattle.doc_model.specs.declared.Kind.TheVariants.{Root, Element, Attribute, Text, Comment}
 
 -- a row of the document, or a text as its characters
 pub data Item : Type 0 where

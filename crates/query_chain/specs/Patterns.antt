@@ -1,6 +1,6 @@
 -- Patterns: what they are, and the texts that they find. The grammar, and the matches that an iterator over a text goes through,
 -- are those of the crate `regex`.
-use Rattle.std.specs.Prelude.{◌≡◌, ℕ, ◌-◌, List, [], ◌∷◌, map, length, slice_range, if◌then◌else◌, nat_le, Option, Some, None, encode_utf8_all}
+use Rattle.std.specs.Prelude.{ℕ, ◌-◌, List, [], ◌∷◌, map, length, slice_range, if◌then◌else◌, nat_le, Option, Some, None, encode_utf8_all}
 use Rattle.std.specs.Str.{chars}
 use Rattle.std.specs.List.{flat_map, range_with_len}
 use Rattle.std.specs.Option.{option_map_or, option_and_then}

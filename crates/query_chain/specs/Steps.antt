@@ -1,5 +1,5 @@
 -- What the private functions hold while the steps of a field run.
-use Rattle.std.specs.Prelude.{◌≡◌, ℕ, ◌<◌, List, [], ◌∷◌, map, length, All}
+use Rattle.std.specs.Prelude.{◌≡◌, ℕ, ◌<◌, List, ◌∷◌, map, length, All}
 use Rattle.std.specs.Str.{chars}
 use Rattle.doc_model.specs.Document.{Document}
 use Rattle.xpath_parser.specs.Asking.{AsksNone}

@@ -1,5 +1,3 @@
-use Rattle.std.proofs.Common.{◌≡◌, ◌≤◌, ◌<◌, ◌∙◌, sym, ap, arith}
-use Rattle.query_chain.specs.Items.{bytes_of}
 use Rattle.query_chain.proofs.ItemTexts.{texts_themselves}
 use Rattle.query_chain.proofs.items.texts_of.Goals as goal
 

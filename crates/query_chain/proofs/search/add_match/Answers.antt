@@ -1,5 +1,5 @@
 use Rattle.std.proofs.lemmas.Result.{err_from_is_err_and}
-use Rattle.query_chain.proofs.Matching.{whole_added, whole_many, group_added, groups_added, groups_many}
+use Rattle.query_chain.proofs.Matching.{whole_added, group_added, groups_many}
 use Rattle.query_chain.proofs.search.add_match.Goals as goal
 
 pub returns-then-groups-le1-clause-ok : goal.returns-then-groups-le1-clause-ok

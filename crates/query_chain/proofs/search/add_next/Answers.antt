@@ -1,4 +1,4 @@
-use Rattle.query_chain.proofs.Matching.{next_added, next_many}
+use Rattle.query_chain.proofs.Matching.{next_added}
 use Rattle.query_chain.proofs.search.add_next.Goals as goal
 
 pub returns-clause-next : goal.returns-clause-next

@@ -1,10 +1,10 @@
-use Rattle.std.proofs.Common.{◌≡◌, ◌+◌, ◌<◌, ◌∙◌, [], ◌∷◌, ap, sym, arith, length, map, encode_utf8_all}
+use Rattle.std.proofs.Common.{◌∙◌, [], ◌∷◌, ap, sym, arith, length, map, encode_utf8_all}
 use Rattle.std.proofs.lemmas.Result.{err_from_is_err_and}
 use Rattle.std.proofs.lemmas.List.{map-append}
 use Rattle.std.proofs.lemmas.List.Sums.{sum_by_push}
 use Rattle.xpath_parser.specs.Typed.{expression}
 use Rattle.query_chain.specs.Chains.{select, value_items}
-use Rattle.query_chain.specs.Items.{node, text, bytes_of}
+use Rattle.query_chain.specs.Items.{text, bytes_of}
 use Rattle.query_chain.specs.Values.{is_rows}
 use Rattle.query_chain.proofs.Errors.{moved}
 use Rattle.query_chain.proofs.Selecting.{row_more, rows_done, texts_over}

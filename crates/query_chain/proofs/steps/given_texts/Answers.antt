@@ -1,4 +1,3 @@
-use Rattle.query_chain.proofs.Stepping.{end_none, stopped_end}
 use Rattle.query_chain.proofs.steps.given_texts.Goals as goal
 
 pub texts_of-requires-in-First : goal.texts_of-requires-in-First

@@ -1,4 +1,4 @@
-use Rattle.std.proofs.Common.{◌≡◌, ◌∙◌, ap, sym, false, length, map, Err}
+use Rattle.std.proofs.Common.{◌≡◌, ◌∙◌, ap, sym, false, Err}
 use Rattle.std.proofs.lemmas.Result.{err_from_is_err_and}
 use Rattle.xpath_parser.specs.Typed.{expression}
 use Rattle.xpath_parser.specs.Shapes.{shape_of, is_nodes}
