@@ -1,15 +1,12 @@
 -- A run ends between characters.
-use Rattle.std.proofs.Common.{◌≡◌, ℕ, ◌+◌, ◌-◌, ◌<◌, ◌≤◌, Bool, true, false, List, length, get_or, sym, subst, arith, IsUtf8, inl, inr, ◌⊎◌}
+use Rattle.std.proofs.Common.{◌≡◌, ℕ, ◌+◌, ◌-◌, ◌<◌, ◌≤◌, Bool, List, length, get_or, sym, subst, arith, IsUtf8, inl, inr, ◌⊎◌}
 use Rattle.std.specs.Str.{IsCharBoundary}
-use Rattle.std.proofs.lemmas.Bool.{cases_lt}
+use Rattle.std.proofs.lemmas.Bool.{cases_lt, both_ways}
 use Rattle.std.proofs.lemmas.List.{get_or_past}
 use Rattle.std.proofs.lemmas.Bool.Decides.{nat_tests}
 use Rattle.std.proofs.lemmas.Str.{IsCharBoundary-before_ascii, IsCharBoundary-after_ascii, IsCharBoundary-end, IsCharBoundary-start}
 use Rattle.text_base.specs.Text.{run_end, is_not_byte, IsWide, IsNarrow, IsPlace}
 use Rattle.text_base.proofs.Runs.{run_end_le, run_end_passes, run_end_stops}
-
-true_false : (b : Bool) → b ≡ true → b ≡ false → ⊥
-true_false b h k = cc
 
 module _ (p : ℕ → Bool) (text : List ℕ) (utf8 : IsUtf8 text) (i : ℕ) (l : i ≤ length text) where
   -- the byte at the end fails, so it is ASCII
@@ -19,7 +16,7 @@ module _ (p : ℕ → Bool) (text : List ℕ) (utf8 : IsUtf8 text) (i : ℕ) (l 
         | inl below ↦
             elim (cases_lt (get_or text (run_end p text i) 0) 128) [
               | inl ascii ↦ IsCharBoundary-before_ascii text (run_end p text i) below ascii
-              | inr past ↦ absurd (true_false _ (wide _ past) (run_end_stops p text i below))
+              | inr past ↦ absurd (both_ways _ (run_end_stops p text i below) (wide _ past))
             ]
         | inr past ↦ subst (IsCharBoundary text) (let e : length text ≡ run_end p text i = omega (arith, run_end_le p text i l) in e) (IsCharBoundary-end text)
       ]
@@ -31,7 +28,7 @@ module _ (p : ℕ → Bool) (text : List ℕ) (utf8 : IsUtf8 text) (i : ℕ) (l 
         | inl more ↦
             elim (cases_lt (get_or text (run_end p text i - 1) 0) 128) [
               | inl ascii ↦ subst (IsCharBoundary text) (let e : run_end p text i - 1 + 1 ≡ run_end p text i = omega arith in e) (IsCharBoundary-after_ascii text (run_end p text i - 1) utf8 (omega (arith, run_end_le p text i l)) ascii)
-              | inr past ↦ absurd (true_false _ (run_end_passes p text i (run_end p text i - 1) (omega arith) (omega arith)) (narrow _ past))
+              | inr past ↦ absurd (both_ways _ (narrow _ past) (run_end_passes p text i (run_end p text i - 1) (omega arith) (omega arith)))
             ]
         | inr none ↦ subst (IsCharBoundary text) (let e : i ≡ run_end p text i = omega arith in e) at
       ]

@@ -9,16 +9,16 @@ use Rattle.text_base.specs.Positions.{at_positions}
 use Rattle.text_base.proofs.Boundaries.{place, boundary}
 
 module _ (text rest : List ℕ) (i c : ℕ) (utf8 : IsUtf8 text) (at : IsPlace text i) (is : drop i text ≡ encode_utf8 c ++ rest) where
-  behind : IsUtf8 (drop i text)
-  behind = IsUtf8-drop text i utf8 (boundary text i at)
+  after : IsUtf8 (drop i text)
+  after = IsUtf8-drop text i utf8 (boundary text i at)
 
-  -- the place behind the character that stands at i
+  -- the place after the character that stands at i
   pub past_char : IsPlace text (i + len_utf8 c)
-  past_char = place text _ (IsCharBoundary-past_char text rest i c at.within behind is)
+  past_char = place text _ (IsCharBoundary-past_char text rest i c at.within after is)
 
   -- and the characters from there on
-  pub chars_behind : chars (drop (i + len_utf8 c) text) ≡ drop 1 (chars (drop i text))
-  chars_behind = ap chars (drop_past_char text rest i c is) ∙ sym (ap (drop 1) (chars_past_char (drop i text) rest c behind is))
+  pub chars_after : chars (drop (i + len_utf8 c) text) ≡ drop 1 (chars (drop i text))
+  chars_after = ap chars (drop_past_char text rest i c is) ∙ sym (ap (drop 1) (chars_past_char (drop i text) rest c after is))
 
 -- a text cut at a place has its characters cut there
 pub chars_cut : (text : List ℕ) (i n : ℕ) → IsUtf8 text → IsPlace text i → chars (drop i text) ≡ drop n (chars text) → chars (take i text) ≡ take n (chars text)

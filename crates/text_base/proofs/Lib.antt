@@ -1,11 +1,14 @@
 pub mod Boundaries
+pub mod ByteParts
 pub mod CharacterLemmas
+pub mod Lists
 pub mod NewlineLemmas
 pub mod NewlinePlaces
+pub mod PartLemmas
 pub mod Places
 pub mod PlainLemmas
 pub mod Runs
 pub mod Text
-pub mod Walks
+pub mod TextTests
 pub mod Wanted
 pub mod WordLemmas

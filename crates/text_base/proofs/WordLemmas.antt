@@ -1,11 +1,12 @@
 -- Words, one after the other, and the words of the bytes of a text.
 use Rattle.std.proofs.Common.{◌≡◌, ℕ, zero, suc, ◌+◌, ◌-◌, ◌<◌, ◌≤◌, Bool, true, false, cond, List, [], ◌∷◌, ◌++◌, length, get_or, take, drop, map, encode_utf8, encode_utf8_all, refl, sym, ◌∙◌, ap, arith, inl, inr}
 use Rattle.std.specs.List.{slice_split, onto_first, filter, All}
-use Rattle.std.proofs.lemmas.Bool.{cases_lt, cases_Bool}
+use Rattle.std.proofs.lemmas.Bool.{cases_lt, cases_Bool, both_ways}
 use Rattle.std.proofs.lemmas.List.{append-nil, take-append-drop, take_all, drop_all, drop_more, drop-drop, get_or-drop, get_or-take, get_or_default, length-take, length-drop}
 use Rattle.std.proofs.lemmas.List.Splits.{slice_split-cons_yes, slice_split-cons_no, slice_split_none, slice_split_at}
 use Rattle.std.proofs.lemmas.Str.{encode_ascii, inside_one, length-encode, len_utf8_bounds, encodes_same}
 use Rattle.text_base.specs.Text.{run_end, IsNarrow, is_space4, not_space4}
+use Rattle.text_base.specs.Strings.{pieces, not_empty, runs}
 use Rattle.text_base.specs.Words.{is_some, words_by}
 use Rattle.std.proofs.lemmas.Bool.Decides.{nat_tests}
 use Rattle.text_base.proofs.Runs.{run_end_from, run_end_le, run_end_passes, run_end_stops}
@@ -96,12 +97,9 @@ onto_bytes : (c : ℕ) (ws : List (List ℕ)) → HasSome ws → onto (encode_ut
 onto_bytes c [] h = absurd h
 onto_bytes c (w ∷ ws) h = onto_part (encode_utf8 c) (encode_utf8_all w) (map encode_utf8_all ws)
 
-true_false : (b : Bool) → b ≡ true → b ≡ false → ⊥
-true_false b h k = cc
-
 -- a character that passes is one byte, and the bytes of another fail
 pub passing_byte : (p : ℕ → Bool) → IsNarrow p → (c : ℕ) → p c ≡ true → encode_utf8 c ≡ c ∷ []
-passing_byte p narrow c h = elim (cases_lt c 128) [ inl lt ↦ encode_ascii c lt | inr ge ↦ absurd (true_false (p c) h (narrow c ge)) ]
+passing_byte p narrow c h = elim (cases_lt c 128) [ inl lt ↦ encode_ascii c lt | inr ge ↦ absurd (both_ways (p c) (narrow c ge) h) ]
 
 pub failing_bytes : (p : ℕ → Bool) → IsNarrow p → (c : ℕ) → p c ≡ false → (k : ℕ) → k < length (encode_utf8 c) → p (get_or (encode_utf8 c) k 0) ≡ false
 failing_bytes p narrow c h k l = elim (cases_lt (get_or (encode_utf8 c) k 0) 128) [
@@ -169,3 +167,12 @@ space4_other b h = grind arith
 
 pub space4_one : (b : ℕ) → not_space4 b ≡ false → is_space4 b ≡ true
 space4_one b h = grind arith
+
+some_kept : (ws : List (List ℕ)) → filter is_some ws ≡ not_empty ws
+some_kept [] = refl
+some_kept ([] ∷ ws) = some_kept ws
+some_kept ((c ∷ w) ∷ ws) = ap (λ vs. (c ∷ w) ∷ vs) (some_kept ws)
+
+-- the words are the maximal runs
+pub words_runs : (p : ℕ → Bool) (x : List ℕ) → words_by p x ≡ runs p x
+words_runs p x = some_kept (pieces p x)

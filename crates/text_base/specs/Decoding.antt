@@ -7,7 +7,7 @@ use Rattle.text_base.specs.declared.reasons.PageFault.{PageFault}
 use Rattle.text_base.specs.declared.reasons.PageReason.{PageReason}
 use Rattle.text_base.specs.declared.reasons.PageReason.TheVariants.{NotUtf8, Nul, Memory}
 
--- any byte but an LF directly behind a CR
+-- any byte but an LF directly after a CR
 abbrev pub is_kept : List ℕ → ℕ → Bool
 is_kept bytes i = not ((slice_index bytes i == 10) && (slice_index bytes (i - 1) == 13))
 

@@ -1,9 +1,10 @@
 pub mod Decoding
 pub mod Kinds
+pub mod Names
 pub mod Newlines
+pub mod Parts
 pub mod Positions
 pub mod Reasons
 pub mod Strings
 pub mod Text
-pub mod Walk
 pub mod Words

@@ -1,8 +1,10 @@
 -- Tests on texts as lists of characters: how they begin and end, what they contain, and their runs.
 use Rattle.std.specs.Prelude.{ℕ, Bool, true, false, ◌&&◌, ◌||◌, ◌==◌, cond, List, [], ◌∷◌}
+use Rattle.std.specs.List.{slice_split, onto_first}
 use Rattle.std.specs.Str.{bytes_eq}
 
-abbrev pub is_empty : List ℕ → Bool
+-- the list has no elements
+abbrev pub is_empty : {A : Type 0} → List A → Bool
 is_empty [] = true
 is_empty (c ∷ x) = false
 
@@ -27,15 +29,13 @@ abbrev pub is_among : List ℕ → List (List ℕ) → Bool
 is_among v [] = false
 is_among v (w ∷ ws) = bytes_eq w v || is_among v ws
 
--- a character in front of the first text
+-- a character before the first text
 abbrev pub put : ℕ → List (List ℕ) → List (List ℕ)
-put c [] = (c ∷ []) ∷ []
-put c (w ∷ ws) = (c ∷ w) ∷ ws
+put c ws = onto_first c ws
 
 -- x cut at each character that passes the test
 abbrev pub pieces : (ℕ → Bool) → List ℕ → List (List ℕ)
-pieces p [] = [] ∷ []
-pieces p (c ∷ x) = cond (p c) ([] ∷ pieces p x) (put c (pieces p x))
+pieces p x = slice_split p x
 
 abbrev pub not_empty : List (List ℕ) → List (List ℕ)
 not_empty [] = []

@@ -1,7 +1,8 @@
 -- Words on the bytes of a text.
 use Rattle.std.specs.Str.{bytes_eq}
-use Rattle.std.specs.Prelude.{◌≡◌, true, false, take, cond, ℕ, ◌+◌, ◌<◌, ◌≤◌, Bool, not, List, [], ◌∷◌, length, drop, slice_index, ◌==◌, ◌||◌, ◌&&◌, nat_le}
-use Rattle.std.specs.List.{prefix_len}
+use Rattle.std.specs.Prelude.{◌≡◌, true, false, take, cond, ℕ, ◌+◌, ◌-◌, ◌*◌, ◌<◌, ◌≤◌, Bool, not, List, [], ◌∷◌, length, drop, slice_index, ◌==◌, ◌||◌, ◌&&◌, nat_le}
+use Rattle.std.specs.Char.{is_ascii_digit}
+use Rattle.std.specs.List.{prefix_len, fold}
 
 -- a space, a tab, a line feed, a carriage return or a form feed
 abbrev pub is_space5 : ℕ → Bool
@@ -13,6 +14,14 @@ is_space4 c = (c == 32) || (c == 9) || (c == 10) || (c == 13)
 
 abbrev pub is_letter : ℕ → Bool
 is_letter c = (nat_le 65 c && nat_le c 90) || (nat_le 97 c && nat_le c 122)
+
+-- `0` to `9`
+abbrev pub is_digit : ℕ → Bool
+is_digit c = is_ascii_digit c
+
+-- the number that ASCII digits write in base 10
+abbrev pub digits_value : List ℕ → ℕ
+digits_value ds = fold (λ n d. n * 10 + (d - 48)) 0 ds
 
 -- all but Space4
 abbrev pub not_space4 : ℕ → Bool

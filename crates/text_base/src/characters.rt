@@ -12,7 +12,7 @@ pub fn char_len(text: &str) -> u64
     text.chars().count() as u64
 }
 
-/// The place behind the character that begins at a place.
+/// The place after the character that begins at a place.
 fn next_place(text: &str, at: usize) -> usize
     requires within { at < length text.now }
     requires place { IsPlace text.now at }
@@ -26,11 +26,11 @@ fn next_place(text: &str, at: usize) -> usize
     }
 }
 
-/// The place behind the first so many characters, or the text's length where it has no more.
+/// The place after the first so many characters, or the text's length where it has no more.
 fn char_place(text: &str, count: u64) -> usize
     ensures place { IsPlace text.now result }
     ensures ahead { chars (take result text.now) ≡ take count (chars text.now) }
-    ensures behind { chars (drop result text.now) ≡ drop count (chars text.now) }
+    ensures after { chars (drop result text.now) ≡ drop count (chars text.now) }
 {
     let mut at = 0;
     let mut left = count;

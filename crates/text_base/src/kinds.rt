@@ -1,5 +1,6 @@
 ghost use Rattle.std.specs.Prelude.{◌≡◌, ◌<◌, ◌≤◌, true, length, slice_index};
-ghost use Rattle.text_base.specs.Text.{is_space4, is_space5, is_letter, not_space4, run_end, IsPlace};
+ghost use Rattle.text_base.specs.Names.{is_name_start, is_name_byte};
+ghost use Rattle.text_base.specs.Text.{is_space4, is_space5, is_digit, is_letter, not_space4, run_end, IsPlace};
 
 /// A kind of bytes. All bytes past ASCII are of the kind, or none is, so that a run of them ends
 /// between characters.
@@ -79,6 +80,27 @@ pub fn is_letter(byte: u8) -> bool
     ensures { result ≡ is_letter byte }
 {
     (byte >= b'A' && byte <= b'Z') || (byte >= b'a' && byte <= b'z')
+}
+
+/// Whether a byte is an ASCII digit.
+pub fn is_digit(byte: u8) -> bool
+    ensures { result ≡ is_digit byte }
+{
+    byte >= b'0' && byte <= b'9'
+}
+
+/// Whether a name may begin with the byte: an ASCII letter, `_` or a byte of a character past ASCII.
+pub fn is_name_start(byte: u8) -> bool
+    ensures { result ≡ is_name_start byte }
+{
+    is_letter(byte) || byte == b'_' || byte >= 128
+}
+
+/// Whether the byte may stand in a name after its start: one with which a name may begin, a digit, `-` or `.`.
+pub fn is_name_byte(byte: u8) -> bool
+    ensures { result ≡ is_name_byte byte }
+{
+    is_name_start(byte) || is_digit(byte) || byte == b'-' || byte == b'.'
 }
 
 /// Where the run of bytes of a kind ends that begins at a place.

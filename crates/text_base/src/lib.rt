@@ -3,6 +3,7 @@
 #![tactic(auto)]
 
 mod characters;
+mod containing;
 mod decoding;
 mod finding;
 mod kinds;
@@ -13,9 +14,13 @@ mod txt;
 mod words;
 
 pub use characters::{char_len, char_sub};
+pub use containing::{begins, ends, includes, is_empty};
 pub use decoding::{decode_page, plain_page};
 pub use finding::{byte_at, bytes_from, find_byte, find_text, is_same, part};
-pub use kinds::{ByteKind, NotSpace4, Space4, Space5, is_letter, is_white, run_end};
+pub use kinds::{
+    ByteKind, NotSpace4, Space4, Space5, is_digit, is_letter, is_name_byte, is_name_start,
+    is_white, run_end,
+};
 pub use letters::{is_space4, is_space5, lower_ascii};
 pub use memory::NoMemory;
 pub use reasons::{PageFault, PageReason, ScriptFault, SelectorFault, XPathFault};

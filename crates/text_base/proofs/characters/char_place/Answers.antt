@@ -14,8 +14,8 @@ loop-left-preserved c = record {
   same = one_left c.loop-left.left (chars (drop c.loop-left.at c.args.text.now)) _ (omega arith) c.next_place-at.ensures.next ∙ c.loop-left.invariant.same;
 }
 
-pub returns-else-at-text-clause-behind : goal.returns-else-at-text-clause-behind
-returns-else-at-text-clause-behind c =
+pub returns-else-at-text-clause-after : goal.returns-else-at-text-clause-after
+returns-else-at-text-clause-after c =
     none_left c.args.text.now c.loop-left.at c.loop-left.left c.args.count (omega arith) c.loop-left.invariant.same
 
 pub returns-else-at-text-clause-ahead : goal.returns-else-at-text-clause-ahead

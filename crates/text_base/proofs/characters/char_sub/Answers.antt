@@ -12,7 +12,7 @@ returns-in-None c =
     let fits : SFits w64 c.args.from = search rules in
     let below : AreBelow c.positions_below-skipped.result c.args.from = simp to_z-of_z at c.positions_below-skipped.ensures in
     ap chars (c.part-rest.ensures ∙ take_rest c.args.text.now c.char_place.result)
-    ∙ c.char_place.ensures.behind
+    ∙ c.char_place.ensures.after
     ∙ sym (wanted_from c.args.from c.positions_below-skipped.result (chars c.args.text.now) below)
     ∙ ap (λ n. at_positions (is_wanted c.args.from n) 1 (chars c.args.text.now)) (sym c.in-None.is)
 
@@ -22,7 +22,7 @@ returns-in-Some c =
     let fits_len : SFits w64 c.in-Some.len = search rules in
     let below : AreBelow c.positions_below-skipped.result c.args.from = simp to_z-of_z at c.positions_below-skipped.ensures in
     let below_end : AreBelow c.positions_below_sum-end.result (c.args.from +ℤ c.in-Some.len) = simp to_z-of_z at c.positions_below_sum-end.ensures in
-    let rest = ap chars (c.part-rest.ensures ∙ take_rest c.args.text.now c.char_place.result) ∙ c.char_place.ensures.behind in
+    let rest = ap chars (c.part-rest.ensures ∙ take_rest c.args.text.now c.char_place.result) ∙ c.char_place.ensures.after in
     let end : c.char_place-in-Some.result - 0 ≡ c.char_place-in-Some.result = omega arith in
     ap chars c.part.ensures
     ∙ ap (λ n. chars (take n c.part-rest.result.now)) end

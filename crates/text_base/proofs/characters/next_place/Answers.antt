@@ -2,7 +2,7 @@ use Rattle.std.proofs.Common.{◌≡◌, ◌+◌, ◌++◌, encode_utf8, subst, 
 use Rattle.std.proofs.lemmas.List.{take_rest}
 use Rattle.std.specs.Str.{chars}
 use Rattle.text_base.specs.Text.{IsPlace}
-use Rattle.text_base.proofs.CharacterLemmas.{past_char, chars_behind}
+use Rattle.text_base.proofs.CharacterLemmas.{past_char, chars_after}
 use Rattle.text_base.proofs.characters.next_place.Goals as goal
 
 -- what stands at the place: a character and the rest
@@ -17,4 +17,4 @@ returns-in-Some-clause-place c =
 pub returns-in-Some-clause-next : goal.returns-in-Some-clause-next
 returns-in-Some-clause-next c =
     ap (λ n. chars (drop (c.args.at + n) c.args.text.now)) c.len_utf8.ensures.value
-    ∙ chars_behind c.args.text.now _ c.args.at c.in-Some.c c.utf8.text c.requires.place (begins c)
+    ∙ chars_after c.args.text.now _ c.args.at c.in-Some.c c.utf8.text c.requires.place (begins c)
