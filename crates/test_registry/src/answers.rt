@@ -15,7 +15,7 @@ pub fn same_folded(a: &str, b: &str) -> bool
 }
 
 /// Whether the first text ends with the second.
-#[tactic(auto, using(std::proofs::lemmas::Str::Pattern::ends_text, crate::proofs::Endings::std_ends))]
+#[tactic(auto, using(std::proofs::lemmas::Str::Pattern::ends_text, text_base::proofs::TextTests::std_ends))]
 pub fn ends_with(a: &str, b: &str) -> bool
     ensures { result ≡ meets EndsWith a.now b.now }
 {

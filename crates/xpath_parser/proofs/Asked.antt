@@ -7,7 +7,8 @@ use Rattle.std.proofs.lemmas.Grind.{flat_map-append}
 use Rattle.std.proofs.lemmas.List.Elements.{All-nil, All-append, All-cons}
 use Rattle.test_registry.specs.declared.kinds.TestKind.{TestKind}
 use Rattle.test_registry.specs.Kinds.{HasKind}
-use Rattle.test_registry.specs.Names.{Known, named_in as kind_of}
+use Rattle.text_base.specs.Names.{named_in as kind_of}
+use Rattle.test_registry.specs.Names.{Known}
 use Rattle.test_registry.proofs.Stored.{found_stored}
 use Rattle.xpath_lexer.specs.Tokens.{Text, Lexeme}
 use Rattle.xpath_lexer.specs.declared.token.XKind.{XKind}

@@ -5,7 +5,8 @@ use Rattle.std.specs.Str.{chars, bytes_eq}
 use Rattle.doc_model.specs.declared.Axis.{Axis}
 use Rattle.doc_model.specs.declared.Axis.TheVariants as axis
 use Rattle.test_registry.specs.declared.kinds.TestKind.{TestKind}
-use Rattle.test_registry.specs.Names.{Known, named_in as kind_of}
+use Rattle.text_base.specs.Names.{named_in as kind_of}
+use Rattle.test_registry.specs.Names.{Known}
 use Rattle.xpath_lexer.specs.declared.token.XKind.{XKind}
 use Rattle.xpath_lexer.specs.declared.token.XKind.TheVariants as k
 use Rattle.xpath_lexer.specs.Tokens.{Text, Lexeme}
