@@ -8,7 +8,7 @@ use Rattle.std.proofs.lemmas.Str.{chars-IsAscii, encodes-IsAscii}
 use Rattle.std.proofs.lemmas.Str.Ascii.{IsAscii-nil, IsAscii-cons}
 use Rattle.css_selectors.specs.declared.selector.Dialect.{Dialect}
 use Rattle.css_meaning.specs.Names.{folded}
-use Rattle.xpath_lexer.specs.Tokens.{is_name_start, is_name_byte}
+use Rattle.text_base.specs.Names.{is_name_start, is_name_byte}
 use Rattle.css_printed.specs.Names.{is_plain_start, is_plain_char, is_plain, name_bytes}
 
 start_name : (c : ℕ) → is_plain_start c ≡ true → is_name_start c ≡ true

@@ -7,7 +7,8 @@ use Rattle.std.proofs.lemmas.Bool.{and_parts, cases_Bool, not-true}
 use Rattle.xpath_lexer.specs.declared.token.XKind.{XKind}
 use Rattle.xpath_lexer.specs.declared.token.XKind.TheVariants as k
 use Rattle.text_base.specs.Text.{is_space4}
-use Rattle.xpath_lexer.specs.Tokens.{Text, Lexeme, Begun, token, is_name_start, is_name_byte, span, with_star, ends_with, Spells, space, next}
+use Rattle.text_base.specs.Names.{is_name_start, is_name_byte}
+use Rattle.xpath_lexer.specs.Tokens.{Text, Lexeme, Begun, token, span, with_star, ends_with, Spells, space, next}
 use Rattle.xpath_parser.specs.declared.term.Term.{Term}
 use Rattle.xpath_parser.specs.declared.term.Term.TheVariants as t
 use Rattle.xpath_parser.specs.Reading.{most_bytes}

@@ -4,7 +4,8 @@ use Rattle.std.specs.List.{list_all, list_any}
 use Rattle.std.specs.Str.{chars}
 use Rattle.std.proofs.lemmas.Bool.{and_parts}
 use Rattle.xpath_lexer.specs.declared.token.XKind.TheVariants as k
-use Rattle.xpath_lexer.specs.Tokens.{Text, Lexeme, lexeme, is_name_start, is_name_byte, span, with_star, ends_with, token, Spells, ends, next}
+use Rattle.text_base.specs.Names.{is_name_start, is_name_byte}
+use Rattle.xpath_lexer.specs.Tokens.{Text, Lexeme, lexeme, span, with_star, ends_with, token, Spells, ends, next}
 use Rattle.xpath_parser.specs.declared.term.Term.{Term}
 use Rattle.xpath_parser.specs.declared.term.Term.TheVariants as t
 use Rattle.xpath_parser.specs.Terms.{terms_after, next_kind, name_term, is_refused, is_operand}

@@ -8,11 +8,12 @@ use Rattle.std.proofs.lemmas.List.{get_or_past, take-append-drop}
 use Rattle.std.proofs.lemmas.List.Folds.{length-prefix_len}
 use Rattle.std.proofs.lemmas.Bool.Decides.{nat_tests}
 use Rattle.text_base.proofs.Runs.{run_end_from, run_end_le, run_end_passes, run_end_stops}
-use Rattle.text_base.specs.Text.{run_end, is_not_byte}
+use Rattle.text_base.specs.Names.{is_name_start, is_name_byte}
+use Rattle.text_base.specs.Text.{run_end, is_digit, is_not_byte}
 use Rattle.xpath_lexer.specs.declared.token.XKind.{XKind}
 use Rattle.xpath_lexer.specs.declared.token.XKind.TheVariants as k
 use Rattle.xpath_lexer.specs.Tokens as t
-use Rattle.xpath_lexer.specs.Tokens.{Text, Lexeme, lexeme, Begun, token, span, is_digit, is_name_start, is_name_byte}
+use Rattle.xpath_lexer.specs.Tokens.{Text, Lexeme, lexeme, Begun, token, span}
 use Rattle.xpath_lexer.specs.Sizes as s
 use Rattle.xpath_lexer.specs.Sizes.{Size}
 

@@ -10,7 +10,7 @@ use Rattle.xpath_lexer.specs.declared.token.XTok.{XTok}
 use Rattle.xpath_lexer.specs.Tokens.{Text, Lexeme, token, Spells, ends, space, next}
 use Rattle.text_base.specs.declared.reasons.XPathFault.{XPathFault}
 use Rattle.text_base.specs.declared.reasons.XPathFault.TheVariants as fault
-use Rattle.xpath_lexer.specs.Places.{IsToken, IsNext, IsFault, Stand, lexeme_of, most_bytes}
+use Rattle.xpath_lexer.specs.Places.{IsToken, IsNext, IsFault, Stand, lexeme_of, most_xpath}
 use Rattle.xpath_lexer.proofs.Spelling.{after_space, after_token, none_begins}
 
 pub record Spelled (x : Text) : Type 0 where
@@ -115,7 +115,7 @@ module _ (text : Text) (utf8 : IsUtf8 text) where
       none_begins (get_or text a 0) (drop (suc a) text) split (f.apart more) (ap token (sym split) ∙ none) s.spells
 
   -- why the next token is not there
-  pub fault_at : (a : ℕ) (found : List XTok) → Front text a found → a < length text → length text ≤ most_bytes → (e : XPathFault) → e ≡ fault.Memory ⊎ e ≡ fault.Text × token (drop a text) ≡ None
+  pub fault_at : (a : ℕ) (found : List XTok) → Front text a found → a < length text → length text ≤ most_xpath → (e : XPathFault) → e ≡ fault.Memory ⊎ e ≡ fault.Text × token (drop a text) ≡ None
       → (e ≡ fault.Memory → ⊥) → IsFault text e
   fault_at a found f more short e (inl h) other = absurd (other h)
   fault_at a found f more short e (inr h) other = subst (IsFault text) (sym h.0) (short, unspelled a found f more h.1)

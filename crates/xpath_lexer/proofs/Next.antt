@@ -3,9 +3,8 @@ use Rattle.std.proofs.Common.{◌≡◌, refl, ◌∙◌, ap, subst, ℕ, ◌+�
 use Rattle.std.specs.Prelude.{slice_index}
 use Rattle.std.specs.Str.{chars}
 use Rattle.std.proofs.lemmas.Bool.{cases_lt}
-use Rattle.std.proofs.lemmas.Str.{IsCharBoundary-end}
+use Rattle.std.proofs.lemmas.Str.{IsCharBoundary-end, encodes-chars}
 use Rattle.text_base.specs.Text.{IsPlace}
-use Rattle.text_base.proofs.Text.{encode-chars}
 use Rattle.text_base.proofs.Boundaries.{place, before_ascii, after_ascii}
 use Rattle.xpath_lexer.specs.declared.token.XKind.{XKind}
 use Rattle.xpath_lexer.specs.declared.token.XKind.TheVariants as k
@@ -16,7 +15,7 @@ use Rattle.xpath_lexer.specs.Places.{IsNext, ValueStands, value_bytes}
 use Rattle.xpath_lexer.proofs.Cuts.{written, cut, Quotes, Sound, is_literal, token_right}
 
 pub encode_chars : (bs : Text) → IsUtf8 bs → encode_utf8_all (chars bs) ≡ bs
-encode_chars bs u = encode-chars bs u
+encode_chars bs u = encodes-chars bs u
 
 -- nothing begins where there is no size
 pub no_token : (x : Text) → token_size x ≡ None → token x ≡ None

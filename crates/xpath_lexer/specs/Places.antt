@@ -10,8 +10,8 @@ use Rattle.xpath_lexer.specs.declared.token.XTok.{XTok}
 use Rattle.xpath_lexer.specs.Tokens.{Text, Lexeme, lexeme, token, Spells}
 
 -- the most bytes of an XPath text
-abbrev pub most_bytes : ℕ
-most_bytes = 1048576
+abbrev pub most_xpath : ℕ
+most_xpath = 1048576
 
 -- a token without its place
 abbrev pub lexeme_of : XTok → Lexeme
@@ -38,8 +38,8 @@ Stand text at (w ∷ ws) = IsToken text at w × Stand text w.to ws
 
 -- Why a text has no tokens: it is too long, or else no list of tokens spells it.
 abbrev pub IsFault : Text → XPathFault → Type 0
-IsFault text fault.Long = most_bytes < length text
-IsFault text fault.Text = (length text ≤ most_bytes) × ((ws : List Lexeme) → Spells text ws → ⊥)
+IsFault text fault.Long = most_xpath < length text
+IsFault text fault.Text = (length text ≤ most_xpath) × ((ws : List Lexeme) → Spells text ws → ⊥)
 IsFault text _ = ⊥
 
 -- ---- what serves the contracts of the code's own functions

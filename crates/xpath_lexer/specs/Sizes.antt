@@ -1,12 +1,13 @@
 -- How many bytes the token at the front of a text has, and of which kind it is. This is the order of the code's work, and serves
 -- its contracts: that it is the token of Tokens is proved.
 use Rattle.std.specs.Prelude.{ℕ, ◌+◌, Bool, ◌&&◌, ◌||◌, ◌==◌, nat_lt, if◌then◌else◌, drop, length, slice_index, Option, Some, None}
-use Rattle.text_base.specs.Text.{run_end, is_not_byte, is_space4}
+use Rattle.text_base.specs.Names.{is_name_start, is_name_byte}
+use Rattle.text_base.specs.Text.{run_end, is_digit, is_not_byte, is_space4}
 use Rattle.xpath_lexer.specs.declared.token.XKind.{XKind}
 use Rattle.xpath_lexer.specs.declared.token.XKind.TheVariants as k
 use Rattle.xpath_lexer.specs.declared.sizes.Run.{Run}
 use Rattle.xpath_lexer.specs.declared.sizes.Run.TheVariants as run
-use Rattle.xpath_lexer.specs.Tokens.{Text, is_digit, is_name_start, is_name_byte}
+use Rattle.xpath_lexer.specs.Tokens.{Text}
 
 abbrev pub has : Run → ℕ → Bool
 has run.Name b = is_name_byte b

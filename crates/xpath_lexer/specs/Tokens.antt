@@ -1,6 +1,7 @@
 -- The tokens of XPath 1.0, section 3.7, on the bytes of a text.
-use Rattle.std.specs.Prelude.{◌≡◌, ℕ, Bool, true, ◌&&◌, ◌||◌, ◌==◌, nat_le, if◌then◌else◌, List, [], ◌∷◌, ◌++◌, Option, Some, None}
-use Rattle.text_base.specs.Text.{is_letter, is_space4}
+use Rattle.std.specs.Prelude.{◌≡◌, ℕ, Bool, true, ◌&&◌, ◌||◌, ◌==◌, if◌then◌else◌, List, [], ◌∷◌, ◌++◌, Option, Some, None}
+use Rattle.text_base.specs.Names.{is_name_start, is_name_byte}
+use Rattle.text_base.specs.Text.{is_digit, is_space4}
 use Rattle.xpath_lexer.specs.declared.token.XKind.{XKind}
 use Rattle.xpath_lexer.specs.declared.token.XKind.TheVariants as k
 
@@ -14,17 +15,6 @@ pub record Lexeme : Type 0 where
 
 abbrev pub lexeme : XKind → Text → Lexeme
 lexeme kind text = record { kind = kind; text = text }
-
-abbrev pub is_digit : ℕ → Bool
-is_digit b = nat_le 48 b && nat_le b 57
-
--- an ASCII letter, `_` or a byte of a character past ASCII
-abbrev pub is_name_start : ℕ → Bool
-is_name_start b = is_letter b || ((b == 95) || nat_le 128 b)
-
--- these, digits, `-` and `.`
-abbrev pub is_name_byte : ℕ → Bool
-is_name_byte b = is_name_start b || (is_digit b || ((b == 45) || (b == 46)))
 
 -- the longest front whose bytes all pass, and what is left
 abbrev pub span : (ℕ → Bool) → Text → Text × Text

@@ -8,4 +8,4 @@ mod tokens;
 
 pub use laws::one_spelling;
 pub use token::{XKind, XTok};
-pub use tokens::xpath_tokens;
+pub use tokens::{XPATH_LIMIT, xpath_tokens};

@@ -1,9 +1,9 @@
 ghost use Rattle.std.specs.Prelude.{◌≡◌, ◌+◌, ◌<◌, ◌≤◌, length, slice_index};
-ghost use Rattle.text_base.specs.Text.{run_end, is_space4};
-ghost use Rattle.xpath_lexer.specs.Tokens as tokens;
+ghost use Rattle.text_base.specs.Text.{run_end};
 ghost use Rattle.xpath_lexer.specs.Sizes as spec;
 
 use crate::token::XKind;
+use text_base::{ByteKind, Space4, is_digit, is_name_byte, is_name_start};
 
 /// The runs of bytes that tokens are made of.
 #[derive(Clone, Copy)]
@@ -23,37 +23,13 @@ fn byte_at(text: &[u8], at: usize) -> u8
     if at < text.len() { text[at] } else { 0 }
 }
 
-fn is_digit(byte: u8) -> bool
-    ensures { result ≡ tokens.is_digit byte }
-{
-    byte >= b'0' && byte <= b'9'
-}
-
-fn is_name_start(byte: u8) -> bool
-    ensures { result ≡ tokens.is_name_start byte }
-{
-    (byte >= b'A' && byte <= b'Z') || (byte >= b'a' && byte <= b'z') || byte == b'_' || byte >= 128
-}
-
-fn is_name_byte(byte: u8) -> bool
-    ensures { result ≡ tokens.is_name_byte byte }
-{
-    is_name_start(byte) || is_digit(byte) || byte == b'-' || byte == b'.'
-}
-
-fn is_space(byte: u8) -> bool
-    ensures { result ≡ is_space4 byte }
-{
-    byte == b' ' || byte == b'\t' || byte == b'\n' || byte == b'\r'
-}
-
 fn has(run: Run, byte: u8) -> bool
     ensures { result ≡ spec.has run byte }
 {
     match run {
         Run::Name => is_name_byte(byte),
         Run::Digits => is_digit(byte),
-        Run::Space => is_space(byte),
+        Run::Space => Space4.has(byte),
         Run::Until(end) => byte != end,
     }
 }

@@ -3,14 +3,15 @@ ghost use Rattle.std.specs.Str.{chars};
 ghost use Rattle.text_base.specs.Text.{IsPlace};
 ghost use Rattle.text_base.specs.declared.reasons.XPathFault.TheVariants as fault;
 ghost use Rattle.xpath_lexer.specs.Tokens.{Spells, token};
-ghost use Rattle.xpath_lexer.specs.Places.{IsNext, IsFault, Stand, ValueStands, lexeme_of, most_bytes, value_bytes};
+ghost use Rattle.xpath_lexer.specs.Places.{IsNext, IsFault, Stand, ValueStands, lexeme_of, most_xpath, value_bytes};
 
 use crate::sizes::{Run, end_of, token_size};
 use crate::token::{XKind, XTok};
 use std::alloc::Global;
 use text_base::{Seq, Txt, XPathFault, bytes_from, part};
 
-const MOST_BYTES: usize = 1_048_576;
+/// The most bytes of an XPath text.
+pub const XPATH_LIMIT: usize = 1_048_576;
 
 #[tactic(auto, using(crate::proofs::Next::encode_chars))]
 fn copied(alloc: Global, text: &str) -> Result<Txt, XPathFault>
@@ -65,16 +66,16 @@ fn next_token(alloc: Global, text: &str, at: usize) -> Result<XTok, XPathFault>
 
 /// The tokens of an XPath text, XPath 1.0, section 3.7. `from` and `to` are places in bytes.
 ///
-/// `Long` is answered exactly where the text has more than 1,048,576 bytes, and else `Text` where
+/// `Long` is answered exactly where the text has more than `XPATH_LIMIT` bytes, and else `Text` where
 /// no list of tokens spells it: at some place after white space no token begins.
 pub fn xpath_tokens(alloc: Global, text: &str) -> Result<Seq<XTok>, XPathFault>
     ensures spelled { IfOk result (λ ws. Spells text.now (map lexeme_of ws)) }
     ensures places { IfOk result (λ ws. Stand text.now 0 ws) }
-    ensures short { IfOk result (λ ws. length text.now ≤ most_bytes) }
-    ensures long { most_bytes < length text.now → IsErrOf result fault.Long }
+    ensures short { IfOk result (λ ws. length text.now ≤ most_xpath) }
+    ensures long { most_xpath < length text.now → IsErrOf result fault.Long }
     ensures fault { IfErr result (λ e. e ≢ fault.Memory → IsFault text.now e) }
 {
-    if text.len() > MOST_BYTES {
+    if text.len() > XPATH_LIMIT {
         return Err(XPathFault::Long);
     }
     let mut found = Seq::new(alloc);

@@ -4,7 +4,7 @@ use Rattle.test_registry.specs.Names.{Known}
 use Rattle.xpath_lexer.specs.Tokens.{Text, Lexeme, Spells}
 use Rattle.text_base.specs.declared.reasons.XPathFault.{XPathFault}
 use Rattle.text_base.specs.declared.reasons.XPathFault.TheVariants as fault
-use Rattle.xpath_lexer.specs.Places.{Stand, IsFault, lexeme_of, most_bytes}
+use Rattle.xpath_lexer.specs.Places.{Stand, IsFault, lexeme_of, most_xpath}
 use Rattle.xpath_lexer.specs.declared.token.XTok.{XTok}
 use Rattle.xpath_parser.specs.declared.expression.Expr.{Expr}
 use Rattle.xpath_parser.specs.Terms.{terms_over, terms_after_over, term_of_over, is_operand, next_kind}
@@ -21,7 +21,7 @@ tokens_within text at (w ∷ ws) l (token, more) =
     omega (arith, rest, token.order, token.some)
 
 -- a text that is not too long has no more tokens than bytes
-pub few_tokens : (text : Text) (ws : List XTok) → Stand text 0 ws → length text ≤ most_bytes → length ws < 2 ^ 32
+pub few_tokens : (text : Text) (ws : List XTok) → Stand text 0 ws → length text ≤ most_xpath → length ws < 2 ^ 32
 few_tokens text ws h l = let all = tokens_within text 0 ws (omega arith) h in omega (arith, all, l)
 
 module _ (tests : Known) where
