@@ -1,3 +1,2 @@
 mod Scanned
-pub mod Texts
 mod Worked

@@ -11,7 +11,8 @@ use Rattle.std.proofs.lemmas.List.Sums.{prefix_len-le-length}
 use Rattle.xpath_values.specs.declared.value.XNum.{XNum}
 use Rattle.xpath_values.specs.declared.value.XNum.TheVariants.{NaN}
 use Rattle.xpath_values.specs.declared.reading.Reading.TheVariants as r
-use Rattle.xpath_values.specs.Numbers.{is_digit, is_space4, trimmed, unsigned_number, signed_number, to_number}
+use Rattle.text_base.specs.Text.{is_digit}
+use Rattle.xpath_values.specs.Numbers.{is_space4, largest_whole, trimmed, unsigned_number, signed_number, to_number}
 use Rattle.xpath_values.specs.Reading as s
 
 -- without white space at its end
@@ -95,29 +96,29 @@ trimmed_more c cs = ap (λ xs. reverse (drop (prefix_len is_space4 xs) xs)) (rev
 -- ---- the value of the digits so far
 
 record Agrees (value n : ℕ) : Type 0 where
-  within : n ≤ 9007199254740991 → value ≡ n
-  beyond : 9007199254740991 < n → 9007199254740991 < value
+  within : n ≤ largest_whole → value ≡ n
+  beyond : largest_whole < n → largest_whole < value
 
 agrees_more : (value n c : ℕ) → Agrees value n → Agrees (s.more value c) (n * 10 + (c - 48))
-agrees_more value n c a = by_test (nat_lt 9007199254740991 value) refl
+agrees_more value n c a = by_test (nat_lt largest_whole value) refl
   where
-    by_test : (v : Bool) → nat_lt 9007199254740991 value ≡ v → Agrees (s.more value c) (n * 10 + (c - 48))
+    by_test : (v : Bool) → nat_lt largest_whole value ≡ v → Agrees (s.more value c) (n * 10 + (c - 48))
     by_test true e =
-        let big : 9007199254740991 < value = grind (arith, nat_tests) in
+        let big : largest_whole < value = grind (arith, nat_tests) in
         rw e (record { within = λ h. absurd (let w = a.within (omega arith) in omega arith); beyond = λ h. big })
     by_test false e =
-        let small : value ≤ 9007199254740991 = grind (arith, nat_tests) in
-        let fits : n ≤ 9007199254740991 = elim (cases_lt 9007199254740991 n) [ inl h ↦ absurd (let b = a.beyond h in omega arith) | inr h ↦ h ] in
+        let small : value ≤ largest_whole = grind (arith, nat_tests) in
+        let fits : n ≤ largest_whole = elim (cases_lt largest_whole n) [ inl h ↦ absurd (let b = a.beyond h in omega arith) | inr h ↦ h ] in
         let same : value ≡ n = a.within fits in
         rw (e, same) (record { within = λ h. refl; beyond = λ h. h })
 
-out_of_range : (minus : Bool) (n : ℕ) → 9007199254740991 < n → s.signed minus n ≡ NaN
-out_of_range false n h = let no : nat_le n 9007199254740991 ≡ false = grind (arith, nat_tests) in rw no refl
+out_of_range : (minus : Bool) (n : ℕ) → largest_whole < n → s.signed minus n ≡ NaN
+out_of_range false n h = let no : nat_le n largest_whole ≡ false = grind (arith, nat_tests) in rw no refl
 out_of_range true zero h = absurd (omega arith)
-out_of_range true (suc n) h = let no : nat_le (suc n) 9007199254740991 ≡ false = grind (arith, nat_tests) in rw no refl
+out_of_range true (suc n) h = let no : nat_le (suc n) largest_whole ≡ false = grind (arith, nat_tests) in rw no refl
 
 agrees_signed : (minus : Bool) (value n : ℕ) → Agrees value n → s.signed minus value ≡ s.signed minus n
-agrees_signed minus value n a = elim (cases_lt 9007199254740991 n) [
+agrees_signed minus value n a = elim (cases_lt largest_whole n) [
   | inl h ↦ out_of_range minus value (a.beyond h) ∙ sym (out_of_range minus n h)
   | inr h ↦ ap (s.signed minus) (a.within h)
 ]
@@ -128,12 +129,12 @@ unfit : (cs : List ℕ) → s.number (s.after r.Unfit cs) ≡ NaN
 unfit [] = refl
 unfit (c ∷ cs) = unfit cs
 
-behind : (minus : Bool) (value : ℕ) (cs : List ℕ) → s.number (s.after (r.Behind minus value) cs) ≡ cond (list_all is_space4 cs) (s.signed minus value) NaN
-behind minus value [] = refl
-behind minus value (c ∷ cs) = by_test (is_space4 c) refl (behind minus value cs)
+after_digits : (minus : Bool) (value : ℕ) (cs : List ℕ) → s.number (s.after (r.After minus value) cs) ≡ cond (list_all is_space4 cs) (s.signed minus value) NaN
+after_digits minus value [] = refl
+after_digits minus value (c ∷ cs) = by_test (is_space4 c) refl (after_digits minus value cs)
   where
-    by_test : (v : Bool) → is_space4 c ≡ v → s.number (s.after (r.Behind minus value) cs) ≡ cond (list_all is_space4 cs) (s.signed minus value) NaN
-        → s.number (s.after (r.Behind minus value) (c ∷ cs)) ≡ cond (list_all is_space4 (c ∷ cs)) (s.signed minus value) NaN
+    by_test : (v : Bool) → is_space4 c ≡ v → s.number (s.after (r.After minus value) cs) ≡ cond (list_all is_space4 cs) (s.signed minus value) NaN
+        → s.number (s.after (r.After minus value) (c ∷ cs)) ≡ cond (list_all is_space4 (c ∷ cs)) (s.signed minus value) NaN
     by_test true e ih = rw e ih
     by_test false e ih = rw e (unfit cs)
 
@@ -153,8 +154,8 @@ digits minus value n (c ∷ cs) a = by_digit (is_digit c) refl (digits minus (s.
     by_blank false e other = rw other refl
 
     by_space : (v : Bool) → is_space4 c ≡ v → is_digit c ≡ false
-        → s.number (s.after (cond v (r.Behind minus value) r.Unfit) cs) ≡ rest_number minus n (cond (v && list_all is_space4 cs) [] (c ∷ trimmed_end cs))
-    by_space true e other = behind minus value cs ∙ by_blank (list_all is_space4 cs) refl other
+        → s.number (s.after (cond v (r.After minus value) r.Unfit) cs) ≡ rest_number minus n (cond (v && list_all is_space4 cs) [] (c ∷ trimmed_end cs))
+    by_space true e other = after_digits minus value cs ∙ by_blank (list_all is_space4 cs) refl other
     by_space false e other = rw other (unfit cs)
 
     by_digit : (v : Bool) → is_digit c ≡ v → s.number (s.after (r.Digits minus (s.more value c)) cs) ≡ rest_number minus (n * 10 + (c - 48)) (trimmed_end cs)

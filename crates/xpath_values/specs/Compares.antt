@@ -2,12 +2,13 @@
 use Rattle.std.specs.Prelude.{ℕ, Bool, true, false, not, List, ℤ, int_lt, int_le}
 use Rattle.std.specs.Ordering.{int_eq}
 use Rattle.std.specs.Str.{bytes_eq}
+use Rattle.text_base.specs.Strings.{is_empty}
 use Rattle.xpath_values.specs.declared.value.XNum.{XNum}
 use Rattle.xpath_values.specs.declared.value.XNum.TheVariants.{Whole, NaN}
 use Rattle.xpath_values.specs.declared.value.Compare.{Compare}
 use Rattle.xpath_values.specs.declared.value.Compare.TheVariants as op
 use Rattle.xpath_values.specs.Numbers.{to_number, number_of_bool, truth_of_num, num_text}
-use Rattle.xpath_values.specs.Strings.{is_empty, text_of_bool}
+use Rattle.xpath_values.specs.Strings.{text_of_bool}
 
 -- A value that is no nodes.
 pub data Plain : Type 0 where

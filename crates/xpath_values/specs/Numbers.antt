@@ -1,12 +1,17 @@
 -- XPath's numbers: whole numbers from -(2^53 - 1) to 2^53 - 1, and NaN.
-use Rattle.std.specs.Prelude.{ℕ, zero, suc, ◌+◌, ◌-◌, ◌*◌, Bool, true, false, ◌&&◌, ◌||◌, ◌==◌, not, nat_le, if◌then◌else◌, List, [], ◌∷◌, reverse, drop, ℤ, pos, negsuc, ◌+ℤ◌, ◌-ℤ◌, ◌*ℤ◌, neg_ℤ, unsigned_abs, int_rem, codes, Option, Some, None}
-use Rattle.std.specs.List.{list_all, fold, prefix_len}
+use Rattle.std.specs.Prelude.{ℕ, zero, suc, Bool, true, false, ◌||◌, ◌==◌, not, nat_le, if◌then◌else◌, List, [], ◌∷◌, reverse, drop, ℤ, pos, negsuc, ◌+ℤ◌, ◌-ℤ◌, ◌*ℤ◌, neg_ℤ, unsigned_abs, int_rem, codes, Option, Some, None}
+use Rattle.std.specs.List.{list_all, prefix_len}
 use Rattle.std.specs.Fmt.{signed_decimal}
+use Rattle.text_base.specs.Text.{is_digit, digits_value}
 use Rattle.xpath_values.specs.declared.value.XNum.{XNum}
 use Rattle.xpath_values.specs.declared.value.XNum.TheVariants.{Whole, NaN}
 
+-- the largest whole number, 2^53 - 1
+abbrev pub largest_whole : ℕ
+largest_whole = 9007199254740991
+
 abbrev pub in_range : ℤ → Bool
-in_range z = nat_le (unsigned_abs z) 9007199254740991
+in_range z = nat_le (unsigned_abs z) largest_whole
 
 -- the whole number, or NaN where it is outside the range
 abbrev pub whole : ℤ → XNum
@@ -50,17 +55,11 @@ num_neg NaN = NaN
 abbrev pub is_space4 : ℕ → Bool
 is_space4 c = (c == 32) || ((c == 9) || ((c == 13) || (c == 10)))
 
-abbrev pub is_digit : ℕ → Bool
-is_digit c = nat_le 48 c && nat_le c 57
-
 -- without Space4 at its two ends
 abbrev pub trimmed : List ℕ → List ℕ
 trimmed cs =
     let front = drop (prefix_len is_space4 cs) cs in
     reverse (drop (prefix_len is_space4 (reverse front)) (reverse front))
-
-abbrev pub digits_value : List ℕ → ℕ
-digits_value cs = fold (λ n c. n * 10 + (c - 48)) 0 cs
 
 -- a number by its digits alone, of which there is at least one
 abbrev pub unsigned_number : (ℤ → ℤ) → List ℕ → XNum

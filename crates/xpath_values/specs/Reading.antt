@@ -2,17 +2,18 @@
 -- stands for is said in Numbers.
 use Rattle.std.specs.Prelude.{◌≡◌, ℕ, ◌+◌, ◌-◌, ◌*◌, Bool, true, false, ◌==◌, nat_lt, if◌then◌else◌, List, ℤ, pos, neg_ℤ}
 use Rattle.std.specs.List.{fold}
+use Rattle.text_base.specs.Text.{is_digit}
 use Rattle.xpath_values.specs.declared.value.XNum.{XNum}
 use Rattle.xpath_values.specs.declared.value.XNum.TheVariants.{NaN}
 use Rattle.xpath_values.specs.declared.reading.Reading.{Reading}
 use Rattle.xpath_values.specs.declared.reading.Reading.TheVariants as r
-use Rattle.xpath_values.specs.Numbers.{is_digit, is_space4, whole}
+use Rattle.xpath_values.specs.Numbers.{is_space4, largest_whole, whole}
 
 abbrev pub is_digit_true : ℕ → Type 0
 is_digit_true c = is_digit c ≡ true
 
 abbrev pub more : ℕ → ℕ → ℕ
-more value c = if nat_lt 9007199254740991 value then value else value * 10 + (c - 48)
+more value c = if nat_lt largest_whole value then value else value * 10 + (c - 48)
 
 abbrev pub next : Reading → ℕ → Reading
 next r.Front c =
@@ -22,8 +23,8 @@ next r.Front c =
 next r.Sign c = if is_digit c then r.Digits true (more 0 c) else r.Unfit
 next (r.Digits minus value) c =
     if is_digit c then r.Digits minus (more value c) else
-    if is_space4 c then r.Behind minus value else r.Unfit
-next (r.Behind minus value) c = if is_space4 c then r.Behind minus value else r.Unfit
+    if is_space4 c then r.After minus value else r.Unfit
+next (r.After minus value) c = if is_space4 c then r.After minus value else r.Unfit
 next r.Unfit c = r.Unfit
 
 abbrev pub sign : Bool → ℤ → ℤ
@@ -35,7 +36,7 @@ signed minus value = whole (sign minus (pos value))
 
 abbrev pub number : Reading → XNum
 number (r.Digits minus value) = signed minus value
-number (r.Behind minus value) = signed minus value
+number (r.After minus value) = signed minus value
 number _ = NaN
 
 abbrev pub after : Reading → List ℕ → Reading

@@ -2,6 +2,7 @@
 use Rattle.std.specs.Prelude.{ℕ, suc, ◌+◌, Bool, true, false, ◌&&◌, ◌==◌, nat_eq, if◌then◌else◌, List, [], ◌∷◌, ◌++◌, length, take, drop, flat_map, slice_get, pos, ◌+ℤ◌, int_le, int_lt, Option, Some, None, codes}
 use Rattle.std.specs.List.{starts_with, position_from, join_with_byte}
 use Rattle.std.specs.Option.{option_to_list}
+use Rattle.text_base.specs.Strings as texts
 use Rattle.xpath_values.specs.declared.value.XNum.{XNum}
 use Rattle.xpath_values.specs.declared.value.XNum.TheVariants.{Whole, NaN}
 use Rattle.xpath_values.specs.Numbers.{is_space4}
@@ -10,9 +11,9 @@ abbrev pub text_of_bool : Bool → List ℕ
 text_of_bool true = codes "true"
 text_of_bool false = codes "false"
 
+-- the text has no characters
 abbrev pub is_empty : List ℕ → Bool
-is_empty [] = true
-is_empty (c ∷ cs) = false
+is_empty cs = texts.is_empty cs
 
 abbrev pub begins : List ℕ → List ℕ → Bool
 begins s t = starts_with nat_eq s t

@@ -2,14 +2,13 @@ ghost use Rattle.std.specs.Prelude.{◌≡◌, IfOk, string_bytes, encode_utf8_a
 ghost use Rattle.std.specs.Str.{chars, bytes_eq};
 ghost use Rattle.xpath_values.specs.Atoms as atoms;
 ghost use Rattle.xpath_values.specs.Numbers as numbers;
-ghost use Rattle.xpath_values.specs.Strings as strings;
 ghost use Rattle.xpath_values.specs.Compares as spec;
 
 use crate::numbers::num_fits;
 use crate::reading::to_number;
 use crate::value::{Atom, Compare, XNum};
 use std::alloc::Global;
-use text_base::NoMemory;
+use text_base::{NoMemory, is_empty};
 
 /// The decimal digits of a number after an optional `-`, or `NaN`.
 pub fn num_text(alloc: Global, number: XNum) -> Result<String, NoMemory>
@@ -30,20 +29,13 @@ fn whole_is_not_zero(number: XNum) -> bool
     }
 }
 
-#[tactic(auto, using(crate::proofs::Texts::empty_chars))]
-fn is_empty_text(text: &str) -> bool
-    ensures { result ≡ strings.is_empty (chars text.now) }
-{
-    text.is_empty()
-}
-
 fn truth_of(atom: Atom<'_>) -> bool
     ensures { result ≡ spec.truth_of (atoms.plain_of atom.entry) }
 {
     match atom {
         Atom::Bool(truth) => truth,
         Atom::Num(number) => whole_is_not_zero(number),
-        Atom::Str(text) => !is_empty_text(text),
+        Atom::Str(text) => !is_empty(text),
     }
 }
 
@@ -59,7 +51,7 @@ fn number_of(atom: Atom<'_>) -> XNum
 }
 
 /// Whether the texts of two values are equal.
-#[tactic(auto, using(crate::proofs::Texts::same_chars))]
+#[tactic(auto, using(text_base::proofs::ByteParts::same_chars))]
 fn are_equal_texts(a: &str, b: &str) -> bool
     ensures { result ≡ bytes_eq (chars a.now) (chars b.now) }
 {

@@ -7,6 +7,6 @@ mod reading;
 mod value;
 
 pub use compares::{compare_atoms, num_text};
-pub use numbers::{add, mul, neg, num_fits, rem, sub, whole};
+pub use numbers::{LARGEST_WHOLE, add, mul, neg, num_fits, rem, sub, whole};
 pub use reading::to_number;
 pub use value::{Atom, Compare, Shape, Value, XNum};

@@ -4,13 +4,14 @@ ghost use Rattle.xpath_values.specs.Compares as compares;
 
 use crate::value::{Compare, XNum};
 
-const MOST: i64 = 9_007_199_254_740_991;
+/// The largest whole number, 2^53 - 1.
+pub const LARGEST_WHOLE: u64 = 9_007_199_254_740_991;
 
 /// The whole number, or NaN where it is outside the range.
 pub fn whole(z: i64) -> XNum
     ensures { result ≡ spec.whole z }
 {
-    if z >= -MOST && z <= MOST {
+    if z.unsigned_abs() <= LARGEST_WHOLE {
         XNum::Whole(z)
     } else {
         XNum::NaN

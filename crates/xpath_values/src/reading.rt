@@ -3,7 +3,7 @@ ghost use Rattle.std.specs.Str.{chars};
 ghost use Rattle.xpath_values.specs.Numbers as spec;
 ghost use Rattle.xpath_values.specs.Reading as reading;
 
-use crate::numbers::{neg, whole};
+use crate::numbers::{LARGEST_WHOLE, neg, whole};
 use crate::value::XNum;
 use text_base::is_space4;
 
@@ -16,28 +16,20 @@ pub enum Reading {
     /// At least one digit; whether a sign stands before them, and their value.
     Digits(bool, u64),
     /// White space after the digits.
-    Behind(bool, u64),
+    After(bool, u64),
     Unfit,
 }
-
-const MOST: u64 = 9_007_199_254_740_991;
 
 /// The value with one digit more, or any value out of the range.
 fn more(value: u64, digit: char) -> u64
     requires { reading.is_digit_true digit }
     ensures { result ≡ reading.more value digit }
 {
-    if value > MOST {
+    if value > LARGEST_WHOLE {
         value
     } else {
         value * 10 + (digit as u64 - 48)
     }
-}
-
-fn is_digit(c: char) -> bool
-    ensures { result ≡ spec.is_digit c }
-{
-    c >= '0' && c <= '9'
 }
 
 fn next(state: Reading, c: char) -> Reading
@@ -46,11 +38,14 @@ fn next(state: Reading, c: char) -> Reading
     match state {
         Reading::Front if is_space4(c) => Reading::Front,
         Reading::Front if c == '-' => Reading::Sign,
-        Reading::Front if is_digit(c) => Reading::Digits(false, more(0, c)),
-        Reading::Sign if is_digit(c) => Reading::Digits(true, more(0, c)),
-        Reading::Digits(minus, value) if is_digit(c) => Reading::Digits(minus, more(value, c)),
-        Reading::Digits(minus, value) | Reading::Behind(minus, value) if is_space4(c) => {
-            Reading::Behind(minus, value)
+        Reading::Front if c.is_ascii_digit() => Reading::Digits(false, more(0, c)),
+        Reading::Sign if c.is_ascii_digit() => Reading::Digits(true, more(0, c)),
+        Reading::Digits(minus, value) if c.is_ascii_digit() => Reading::Digits(
+            minus,
+            more(value, c),
+        ),
+        Reading::Digits(minus, value) | Reading::After(minus, value) if is_space4(c) => {
+            Reading::After(minus, value)
         }
         _ => Reading::Unfit,
     }
@@ -59,7 +54,7 @@ fn next(state: Reading, c: char) -> Reading
 fn signed(minus: bool, value: u64) -> XNum
     ensures { result ≡ reading.signed minus value }
 {
-    if value > MOST {
+    if value > LARGEST_WHOLE {
         return XNum::NaN;
     }
     let number = whole(value as i64);
@@ -70,7 +65,7 @@ fn number(state: Reading) -> XNum
     ensures { result ≡ reading.number state }
 {
     match state {
-        Reading::Digits(minus, value) | Reading::Behind(minus, value) => signed(minus, value),
+        Reading::Digits(minus, value) | Reading::After(minus, value) => signed(minus, value),
         _ => XNum::NaN,
     }
 }
