@@ -3,7 +3,8 @@ use Rattle.std.proofs.Common.{◌≤◌, false, length}
 use Rattle.css_selectors.specs.declared.selector.Dialect.{Dialect}
 use Rattle.css_selectors.specs.declared.selector.SelectorList.{SelectorList}
 use Rattle.css_selectors.specs.WellMade.{WellMade}
-use Rattle.xpath_parser.specs.Reading.{ReadsAs, most_bytes}
+use Rattle.xpath_lexer.specs.Places.{most_xpath}
+use Rattle.xpath_parser.specs.Reading.{ReadsAs}
 use Rattle.xpath_parser.specs.Terms.{most_open}
 use Rattle.xpath_parser.proofs.Complete.{one_expression}
 use Rattle.css_printed.specs.Expression.{expression}
@@ -17,11 +18,11 @@ use Rattle.css_printed.proofs.TemplateTerms.{list_terms}
 use Rattle.css_printed.proofs.TypesSelectors.{list_typed, list_shape}
 
 -- the text reads as the list's expression
-pub printed_reads : (d : Dialect) (list : SelectorList) → WellMade list → Spoken most_open false (printed d list) (list_terms d list) → length (printed d list) ≤ most_bytes
+pub printed_reads : (d : Dialect) (list : SelectorList) → WellMade list → Spoken most_open false (printed d list) (list_terms d list) → length (printed d list) ≤ most_xpath
     → ReadsAs (printed d list) (expression d list)
 printed_reads d list made spoken short = spoken_reads (printed d list) (list_terms d list) (expression d list) short spoken (list_reads d list made) (list_typed d list made)
 
-pub keeps_all : (d : Dialect) (list : SelectorList) → WellMade list → (spoken : Spoken most_open false (printed d list) (list_terms d list)) → length (printed d list) ≤ most_bytes
+pub keeps_all : (d : Dialect) (list : SelectorList) → WellMade list → (spoken : Spoken most_open false (printed d list) (list_terms d list)) → length (printed d list) ≤ most_xpath
     → KeepsMeaning d list (printed d list)
 keeps_all d list made spoken short =
     let reads : ReadsAs (printed d list) (expression d list) = printed_reads d list made spoken short in

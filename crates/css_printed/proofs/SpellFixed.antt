@@ -11,7 +11,7 @@ use Rattle.text_base.specs.Names.{is_name_start, is_name_byte}
 use Rattle.xpath_lexer.specs.Tokens.{Text, Lexeme, Begun, token, span, with_star, ends_with, Spells, space, next}
 use Rattle.xpath_parser.specs.declared.term.Term.{Term}
 use Rattle.xpath_parser.specs.declared.term.Term.TheVariants as t
-use Rattle.xpath_parser.specs.Reading.{most_bytes}
+use Rattle.xpath_lexer.specs.Places.{most_xpath}
 use Rattle.xpath_parser.specs.Terms.{term_of, terms_after, next_kind, name_term, is_refused, is_operand}
 use Rattle.css_printed.proofs.Rooms.{Fits, OnRoom, room_after}
 use Rattle.css_printed.proofs.Spelling.{Spoken, Behind}
@@ -26,7 +26,7 @@ Stands room false text ts = Spoken room false text ts
 -- The piece puts these terms in front of what stands behind it, in a text that is not too long.
 abbrev pub Puts : ℕ → Bool → ℕ → Bool → Text → List Term → Type 0
 Puts room after room' after' x ts =
-    (rest : Text) (us : List Term) → length (x ++ rest) ≤ most_bytes → Stands room' after' rest us → Stands room after (x ++ rest) (ts ++ us)
+    (rest : Text) (us : List Term) → length (x ++ rest) ≤ most_xpath → Stands room' after' rest us → Stands room after (x ++ rest) (ts ++ us)
 
 -- a piece with its text and its terms
 pub record Piece (room : ℕ) (after : Bool) (room' : ℕ) (after' : Bool) : Type 0 where
@@ -42,10 +42,10 @@ pub then_puts : (r : ℕ) (a : Bool) (r' : ℕ) (a' : Bool) (r'' : ℕ) (a'' : B
 then_puts r a r' a' r'' a'' x y ts us p q rest vs h b =
     let P : Text → Type 0 = λ z. Stands r a z ((ts ++ us) ++ vs) in
     let Q : List Term → Type 0 = λ z. Stands r a (x ++ (y ++ rest)) z in
-    let L : Text → Type 0 = λ z. length z ≤ most_bytes in
-    let long : length (x ++ (y ++ rest)) ≤ most_bytes = subst L (append_assoc x y rest) h in
+    let L : Text → Type 0 = λ z. length z ≤ most_xpath in
+    let long : length (x ++ (y ++ rest)) ≤ most_xpath = subst L (append_assoc x y rest) h in
     subst P (sym (append_assoc x y rest)) (subst Q (sym (append_assoc ts us vs))
-    (p (y ++ rest) (us ++ vs) long (q rest vs (shorter x (y ++ rest) most_bytes long) b)))
+    (p (y ++ rest) (us ++ vs) long (q rest vs (shorter x (y ++ rest) most_xpath long) b)))
 
 infixr 40 ◌⨾◌
 abbrev pub ◌⨾◌ : {r : ℕ} {a : Bool} {r' : ℕ} {a' : Bool} {r'' : ℕ} {a'' : Bool} → Piece r a r' a' → Piece r' a' r'' a'' → Piece r a r'' a''

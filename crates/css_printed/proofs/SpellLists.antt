@@ -16,7 +16,7 @@ use Rattle.css_selectors.specs.WellMade.{WellMade, IsSelector, IsPart, AreLinked
 use Rattle.xpath_lexer.specs.Tokens.{Text}
 use Rattle.xpath_parser.specs.declared.term.Term.{Term}
 use Rattle.xpath_parser.specs.declared.term.Term.TheVariants as t
-use Rattle.xpath_parser.specs.Reading.{most_bytes}
+use Rattle.xpath_lexer.specs.Places.{most_xpath}
 use Rattle.xpath_parser.specs.Terms.{axis_names, function_names, node_type_names, operator_names, most_open}
 use Rattle.css_printed.specs.Names.{attribute_text}
 use Rattle.css_printed.specs.Printed.{part_text, tail_text, parts_text, selector_text, joined, printed}
@@ -81,15 +81,15 @@ some_items : (d : Dialect) (items : List Selector) → 0 < length items → AllB
 some_items d [] some g h r = absurd (omega arith)
 some_items d (s ∷ items) some g h r = items_put d s items g h r
 
-whole_spoken : (x : Text) (ts : List Term) → length x ≤ most_bytes → ((r : ℕ) → Puts (full r) false (full r) true x ts) → Spoken most_open false x ts
+whole_spoken : (x : Text) (ts : List Term) → length x ≤ most_xpath → ((r : ℕ) → Puts (full r) false (full r) true x ts) → Spoken most_open false x ts
 whole_spoken x ts short p =
     let P : Text → Type 0 = λ z. Spoken most_open false z ts in
     let Q : List Term → Type 0 = λ z. Spoken most_open false (x ++ []) z in
-    let L : Text → Type 0 = λ z. length z ≤ most_bytes in
+    let L : Text → Type 0 = λ z. length z ≤ most_xpath in
     subst P (append-nil x) (subst Q (append-nil ts) (p 32 [] [] (subst L (sym (append-nil x)) short) (nothing most_open)))
 
 -- the whole list
-pub list_spoken : (d : Dialect) (list : SelectorList) → WellMade list → AreTexts list → length (printed d list) ≤ most_bytes
+pub list_spoken : (d : Dialect) (list : SelectorList) → WellMade list → AreTexts list → length (printed d list) ≤ most_xpath
     → Spoken most_open false (printed d list) (terms.list_terms d list)
 list_spoken d list made are_texts short =
     whole_spoken (printed d list) (terms.list_terms d list) short

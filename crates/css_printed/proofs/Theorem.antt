@@ -4,7 +4,7 @@ use Rattle.css_selectors.specs.declared.selector.Dialect.{Dialect}
 use Rattle.css_selectors.specs.declared.selector.SelectorList.{SelectorList}
 use Rattle.css_selectors.specs.WellMade.{WellMade}
 use Rattle.xpath_lexer.specs.Tokens.{Text}
-use Rattle.xpath_parser.specs.Reading.{most_bytes}
+use Rattle.xpath_lexer.specs.Places.{most_xpath}
 use Rattle.css_printed.specs.Printed.{printed}
 use Rattle.css_printed.specs.PrintedLaw.{PrintedLaw}
 use Rattle.css_printed.specs.Promise.{KeepsMeaning}
@@ -16,7 +16,7 @@ pub printed_law : PrintedLaw
 printed_law d list made texts within = keeps_all d list made (list_spoken d list made texts within) within
 
 -- from the bytes that were printed
-pub keeps_meaning : (d : Dialect) (list : SelectorList) (text : Text) → WellMade list → AreTexts list → text ≡ printed d list → length text ≤ most_bytes → KeepsMeaning d list text
+pub keeps_meaning : (d : Dialect) (list : SelectorList) (text : Text) → WellMade list → AreTexts list → text ≡ printed d list → length text ≤ most_xpath → KeepsMeaning d list text
 keeps_meaning d list text made texts e short =
-    let P : Text → Type 0 = λ t. length t ≤ most_bytes → KeepsMeaning d list t in
+    let P : Text → Type 0 = λ t. length t ≤ most_xpath → KeepsMeaning d list t in
     subst P (sym e) (printed_law d list made texts) short

@@ -5,7 +5,8 @@ use Rattle.xpath_values.specs.declared.value.Value.TheVariants.{Str}
 use Rattle.xpath_parser.specs.declared.expression.Expr.{Expr}
 use Rattle.xpath_parser.specs.Denote.{denote}
 use Rattle.xpath_parser.specs.Functions.{Context}
-use Rattle.xpath_parser.specs.Reading.{ReadsAs, most_bytes}
+use Rattle.xpath_lexer.specs.Places.{most_xpath}
+use Rattle.xpath_parser.specs.Reading.{ReadsAs}
 use Rattle.css_printed.specs.Literals.{literal_text}
 use Rattle.css_selectors.specs.Texts.{IsText}
 
@@ -16,4 +17,4 @@ pub record StandsFor (x : List ℕ) : Type 0 where
   pub value : (doc : Document) (c : Context) → denote doc expression c ≡ Str x
 
 abbrev pub LiteralLaw : Type 0
-LiteralLaw = (x : List ℕ) → IsText x → length (literal_text (encode_utf8_all x)) ≤ most_bytes → StandsFor x
+LiteralLaw = (x : List ℕ) → IsText x → length (literal_text (encode_utf8_all x)) ≤ most_xpath → StandsFor x

@@ -1,27 +1,25 @@
 -- What is well typed has no function with a wrong number of arguments among its terms.
-use Rattle.std.proofs.Common.{◌≡◌, refl, sym, ◌∙◌, ap, subst, ℕ, zero, suc, ◌+◌, ◌-◌, ◌<◌, ◌≤◌, Bool, true, false, ◌&&◌, List, [], ◌∷◌, ◌++◌, map, length, eqb, arith, append_assoc, inl, inr, ◌⊎◌}
+use Rattle.std.proofs.Common.{◌≡◌, refl, sym, ◌∙◌, ap, ℕ, zero, suc, Bool, true, false, ◌&&◌, List, [], ◌∷◌, ◌++◌, map, length, eqb, arith, append_assoc, inl, inr}
 use Rattle.std.specs.List.{list_all}
 use Rattle.xpath_parser.specs.declared.expression.Expr.{Expr}
 use Rattle.xpath_parser.specs.declared.expression.Expr.TheVariants as e
 use Rattle.xpath_parser.specs.declared.expression.Func.{Func}
 use Rattle.xpath_parser.specs.declared.expression.Func.TheVariants as func
-use Rattle.xpath_parser.specs.declared.expression.Operand.{out-Operand}
 use Rattle.xpath_parser.specs.declared.expression.Start.{Start}
 use Rattle.xpath_parser.specs.declared.expression.Start.TheVariants.{Here, Root, From}
-use Rattle.xpath_parser.specs.declared.expression.Step.{Step, out-Step}
+use Rattle.xpath_parser.specs.declared.expression.Step.{Step}
 use Rattle.doc_model.specs.declared.Axis.{Axis}
 use Rattle.doc_model.specs.declared.Axis.TheVariants as axis_of
 use Rattle.doc_model.specs.declared.NodeTest.{NodeTest}
-use Rattle.xpath_parser.specs.declared.term.NodeType.{NodeType}
 use Rattle.xpath_parser.specs.declared.term.Term.{Term}
 use Rattle.xpath_parser.specs.declared.term.Term.TheVariants as t
 use Rattle.xpath_parser.specs.Grammar as g
 use Rattle.xpath_parser.specs.Grammar.{tier_of, Node, Reads, Operands, operand, made, joined, negated, filtered, step_of, any_below}
 use Rattle.xpath_parser.specs.Faults.{argument_count, count_after_round, commas}
 use Rattle.xpath_parser.specs.Shapes.{typing, takes, is_nodes, wants_nodes, if_wanted}
-use Rattle.xpath_parser.specs.Typings.{start_right, operand_typed, step_right, operand_right, fits}
+use Rattle.xpath_parser.specs.Typings.{start_right, step_right, operand_right, fits}
 use Rattle.xpath_parser.proofs.Commas.{counted}
-use Rattle.xpath_parser.proofs.Complete.{First, Starts, begins_path, begins}
+use Rattle.xpath_parser.proofs.Complete.{First, Starts, begins}
 use Rattle.xpath_parser.proofs.ShapeLemmas as shapes
 
 -- each function among the terms has its number of arguments

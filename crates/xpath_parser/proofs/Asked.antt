@@ -1,5 +1,5 @@
 -- What an expression asks is what its terms call, and those are stored.
-use Rattle.std.proofs.Common.{◌≡◌, refl, sym, ◌∙◌, ap, subst, ℕ, zero, suc, Bool, true, false, cond, eqb, List, [], ◌∷◌, ◌++◌, map, arith, append_assoc, append-nil, Some, None}
+use Rattle.std.proofs.Common.{◌≡◌, refl, sym, ◌∙◌, ap, subst, ℕ, zero, suc, Bool, true, false, eqb, List, [], ◌∷◌, ◌++◌, map, arith, append_assoc, append-nil, Some, None}
 use Rattle.std.specs.Prelude.{All, Option, if◌then◌else◌, ◌==◌, nat_le, pos}
 use Rattle.std.specs.List.{flat_map, list_any, AllByRecursion}
 use Rattle.std.specs.Str.{bytes_eq}
@@ -7,7 +7,9 @@ use Rattle.std.proofs.lemmas.Grind.{flat_map-append}
 use Rattle.std.proofs.lemmas.List.Elements.{All-nil, All-append, All-cons}
 use Rattle.test_registry.specs.declared.kinds.TestKind.{TestKind}
 use Rattle.test_registry.specs.Kinds.{HasKind}
-use Rattle.text_base.specs.Names.{named_in as kind_of}
+use Rattle.text_base.specs.Names.{named_in}
+use Rattle.text_base.specs.Text.{digits_value}
+use Rattle.xpath_values.specs.Numbers.{largest_whole}
 use Rattle.test_registry.specs.Names.{Known}
 use Rattle.test_registry.proofs.Stored.{found_stored}
 use Rattle.xpath_lexer.specs.Tokens.{Text, Lexeme}
@@ -18,14 +20,13 @@ use Rattle.xpath_parser.specs.declared.expression.Expr.{Expr}
 use Rattle.xpath_parser.specs.declared.expression.Expr.TheVariants as e
 use Rattle.xpath_parser.specs.declared.expression.Func.{Func}
 use Rattle.xpath_parser.specs.declared.expression.Func.TheVariants as func
-use Rattle.xpath_parser.specs.declared.expression.Start.TheVariants.{From}
 use Rattle.xpath_parser.specs.declared.term.NodeType.{NodeType}
 use Rattle.xpath_parser.specs.declared.term.Term.{Term}
 use Rattle.xpath_parser.specs.declared.term.Term.TheVariants as t
 use Rattle.xpath_parser.specs.Grammar as g
 use Rattle.xpath_parser.specs.Grammar.{tier_of, Node, Reads, Operands, operand, made, joined, negated, filtered, any_below}
-use Rattle.xpath_parser.specs.Asking.{Kinds, stored_kind, func_kinds, stored_kinds, AsksOnly}
-use Rattle.xpath_parser.specs.Terms.{named_in, axis_names, node_type_names, function_names, operator_names, operator_term, axis_term, function_term, or_stored, function_of, called_term_over, name_term_over, number_term, digits_value, term_of_over, is_operand, next_kind, terms_after_over, terms_over}
+use Rattle.xpath_parser.specs.Asking.{Kinds, func_kinds, stored_kinds, AsksOnly}
+use Rattle.xpath_parser.specs.Terms.{axis_names, node_type_names, function_names, operator_names, operator_term, axis_term, function_term, or_stored, function_of, called_term_over, name_term_over, number_term, term_of_over, is_operand, next_kind, terms_after_over}
 use Rattle.xpath_parser.specs.Reading.{ReadsOver}
 use Rattle.xpath_parser.proofs.Asking as asking
 use Rattle.xpath_parser.proofs.Asking.{kinds_right, kinds_within}
@@ -179,7 +180,7 @@ axis_plain (Some a) = refl
 axis_plain None = refl
 
 number_plain : (w : Text) → term_kind (number_term w) ≡ []
-number_plain w = by (list_any (λ b. b == 46) w) (nat_le (digits_value w) 9007199254740991)
+number_plain w = by (list_any (λ b. b == 46) w) (nat_le (digits_value w) largest_whole)
   where
     by : (p q : Bool) → term_kind (if p then t.Fraction else if q then t.Number (pos (digits_value w)) else t.TooLarge) ≡ []
     by true q = refl
@@ -193,14 +194,14 @@ module _ (tests : Known) where
   plain : (ks : Kinds) → ks ≡ [] → Stored ks
   plain ks h = subst Stored (sym h) (All-nil (λ kind. HasKind kind tests))
 
-found_or_stored : (tests : Known) (w : Text) (o : Option Func) (kind : Option TestKind) → term_kind (function_term o) ≡ [] → kind_of tests w ≡ kind → Stored tests (term_kind (function_term (or_stored o kind)))
+found_or_stored : (tests : Known) (w : Text) (o : Option Func) (kind : Option TestKind) → term_kind (function_term o) ≡ [] → named_in tests w ≡ kind → Stored tests (term_kind (function_term (or_stored o kind)))
 found_or_stored tests w (Some f) kind h is = plain tests (func_kinds f) h
 found_or_stored tests w None (Some kind) h is = All-cons (λ kind. HasKind kind tests) kind [] (found_stored (Some kind) tests w (sym is)) (All-nil (λ kind. HasKind kind tests))
 found_or_stored tests w None None h is = All-nil (λ kind. HasKind kind tests)
 
 function_stored : (tests : Known) (w : Text) → Stored tests (term_kind (function_term (function_of tests w)))
 function_stored [] w = plain [] _ (function_plain w)
-function_stored (p ∷ ps) w = found_or_stored (p ∷ ps) w (named_in function_names w) (kind_of (p ∷ ps) w) (function_plain w) refl
+function_stored (p ∷ ps) w = found_or_stored (p ∷ ps) w (named_in function_names w) (named_in (p ∷ ps) w) (function_plain w) refl
 
 module _ (tests : Known) where
   called_stored : (n : Option NodeType) (w : Text) → Stored tests (term_kind (called_term_over tests n w))

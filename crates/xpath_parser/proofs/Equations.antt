@@ -16,7 +16,7 @@ use Rattle.xpath_parser.specs.declared.expression.Expr.TheViews.{rolls-Here, rol
 use Rattle.xpath_parser.specs.declared.expression.Start.{Start}
 use Rattle.xpath_parser.specs.declared.expression.Start.TheVariants.{Here, Root, From}
 use Rattle.xpath_parser.specs.declared.expression.Step.{Step, out-Step, roll-Step}
-use Rattle.xpath_parser.specs.declared.expression.Operand.{Operand, out-Operand, roll-Operand}
+use Rattle.xpath_parser.specs.declared.expression.Operand.{Operand, roll-Operand}
 use Rattle.xpath_values.specs.declared.value.Value.{Value}
 use Rattle.xpath_values.specs.declared.value.Value.TheVariants.{Nodes, Num, Str, Bool as Truth}
 use Rattle.xpath_values.specs.Numbers.{whole}

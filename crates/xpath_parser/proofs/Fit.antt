@@ -1,14 +1,15 @@
 -- From tokens and terms to what a text reads as.
-use Rattle.std.proofs.Common.{◌≡◌, ◌≢◌, refl, subst, sym, ◌∙◌, ap, ℕ, suc, ◌+◌, ◌-◌, ◌<◌, ◌≤◌, ◌^◌, Bool, true, false, List, [], ◌∷◌, length, map, None, arith}
+use Rattle.std.proofs.Common.{◌≡◌, ◌≢◌, refl, subst, sym, ap, ℕ, suc, ◌+◌, ◌<◌, ◌≤◌, ◌^◌, Bool, true, false, List, [], ◌∷◌, length, map, None, arith}
+use Rattle.std.proofs.lemmas.List.{length-map}
 use Rattle.test_registry.specs.Names.{Known}
-use Rattle.xpath_lexer.specs.Tokens.{Text, Lexeme, Spells}
+use Rattle.xpath_lexer.specs.Tokens.{Text, Lexeme}
 use Rattle.text_base.specs.declared.reasons.XPathFault.{XPathFault}
 use Rattle.text_base.specs.declared.reasons.XPathFault.TheVariants as fault
 use Rattle.xpath_lexer.specs.Places.{Stand, IsFault, lexeme_of, most_xpath}
 use Rattle.xpath_lexer.specs.declared.token.XTok.{XTok}
 use Rattle.xpath_parser.specs.declared.expression.Expr.{Expr}
 use Rattle.xpath_parser.specs.Terms.{terms_over, terms_after_over, term_of_over, is_operand, next_kind}
-use Rattle.xpath_parser.specs.Faults.{IsFit, IsFaultOver, first_fault, unread, too_long, unspelled, too_deep}
+use Rattle.xpath_parser.specs.Faults.{IsFit, IsFaultOver, first_fault, unread, too_long, unspelled}
 use Rattle.xpath_parser.specs.Grammar.{ReadsWhole}
 use Rattle.xpath_parser.specs.Reading.{ReadsOver, IsReadable}
 use Rattle.xpath_parser.specs.Shapes.{is_well_typed}
@@ -29,10 +30,6 @@ module _ (tests : Known) where
   terms_length after [] = refl
   terms_length after (w ∷ ws) = ap suc (terms_length (is_operand (term_of_over tests after w.kind w.text (next_kind ws))) ws)
 
-  length_map : {A B : Type 0} (f : A → B) (xs : List A) → length (map f xs) ≡ length xs
-  length_map f [] = refl
-  length_map f (x ∷ xs) = ap suc (length_map f xs)
-
   -- why a text has no tokens
   pub lexer_fault : (text : Text) (e : XPathFault) → IsFault text e → IsFaultOver tests text e
   lexer_fault text fault.Long h = too_long h
@@ -51,7 +48,7 @@ module _ (tests : Known) where
 
   -- as many terms as tokens
   pub few_terms : (ws : List XTok) → length ws < 2 ^ 32 → length (terms_over tests (map lexeme_of ws)) < 2 ^ 32
-  few_terms ws l = let a = terms_length false (map lexeme_of ws) in let b = length_map lexeme_of ws in omega (arith, a, b, l)
+  few_terms ws l = let a = terms_length false (map lexeme_of ws) in let b = length-map ws lexeme_of in omega (arith, a, b, l)
 
   pub reads_as : (text : Text) (ws : List Lexeme) (x : Expr) → IsFit text ws → ReadsWhole (terms_over tests ws) x → first_fault (terms_over tests ws) ≡ None → is_well_typed x ≡ true → ReadsOver tests text x
   reads_as text ws x fit r none e =

@@ -1,5 +1,5 @@
 -- A loop that gathers a list, beside the rule that reads it.
-use Rattle.std.proofs.Common.{◌≡◌, refl, sym, ◌∙◌, ap, ℕ, suc, ◌+◌, ◌-◌, ◌<◌, ◌≤◌, zero, eqb, map, Bool, true, false, List, [], ◌∷◌, ◌++◌, Option, Some, None, append_assoc, append-nil, arith, length, ◌⊎◌, inl, inr}
+use Rattle.std.proofs.Common.{◌≡◌, refl, sym, ◌∙◌, ap, ℕ, suc, ◌+◌, ◌-◌, ◌<◌, ◌≤◌, zero, eqb, map, true, false, List, [], ◌∷◌, ◌++◌, Some, None, append_assoc, append-nil, arith, length, ◌⊎◌, inl, inr}
 use Rattle.std.proofs.lemmas.Bool.Decides.{nat_tests}
 use Rattle.xpath_parser.specs.declared.expression.Expr.{Expr}
 use Rattle.xpath_parser.specs.declared.expression.Step.{Step}
@@ -10,10 +10,6 @@ use Rattle.xpath_parser.specs.declared.term.Term.{Term}
 use Rattle.xpath_parser.specs.Parsing.{with_front, mapped, joins_at, made_of, listed}
 use Rattle.xpath_parser.specs.Reader
 use Rattle.xpath_parser.specs.Reader.{Outcome, Parser, ◌>>=◌, sees, rest, expect, preds, args, steps, operators, after_arg, after_step}
-
-pub front_nil : {A : Type 0} (r : Outcome (List A)) → with_front [] r ≡ r
-front_nil None = refl
-front_nil (Some q) = refl
 
 pub front_push : {A : Type 0} (front : List A) (x : A) (r : Outcome (List A)) → with_front front (r >>= (λ q. Some (x ∷ q.0, q.1))) ≡ with_front (front ++ x ∷ []) r
 front_push front x None = refl
@@ -128,19 +124,6 @@ tier_above inner (suc k) ts some h =
     let same : suc k - 1 ≡ k = omega arith in
     ap (λ b. Reader.tier_by inner b k (Reader.tier inner k) ts) j ∙ ap (λ n. Reader.joins n (Reader.tier inner n) ts) (sym same)
 
-pub tier_alone : (inner : Parser Expr) (level : ℕ) (ts : List Term) (x : Expr) (left : List Term) → 0 < level → eqb level 2 ≡ false → Reader.tier inner (level - 1) ts ≡ Some (x, left)
-    → joins_at level (Reader.peek left) ≡ false → Reader.tier inner level ts ≡ Some (x, left)
-tier_alone inner level ts x left some h e none =
-    let sub = Reader.tier inner (level - 1) in
-    let same : level ≡ level - 1 + 1 = omega arith in
-    tier_above inner level ts some h ∙ ap (λ o. o >>= (λ r. operators (level - 1) sub (length r.1) r.1 >>= (λ q. Some (made (suc (level - 1)) r.0 q.0, q.1)))) e
-    ∙ ap (λ o. o >>= (λ q. Some (made (suc (level - 1)) x q.0, q.1))) (ends (length left) left (ap (λ m. joins_at m (Reader.peek left)) (sym same) ∙ none))
-  where
-    ends : (n : ℕ) (us : List Term) → joins_at (level - 1 + 1) (Reader.peek us) ≡ false → operators (level - 1) (Reader.tier inner (level - 1)) n us ≡ Some ([], us)
-    ends zero us h = refl
-    ends (suc n) [] h = refl
-    ends (suc n) (w ∷ ws) h = let differs : eqb (tier_of w) (suc (level - 1)) ≡ false = ap (λ m. eqb (tier_of w) m) (omega arith) ∙ h in rw differs refl
-
 pub tier_more : (inner : Parser Expr) (level : ℕ) (ts : List Term) (x : Expr) (left : List Term) → 0 < level → eqb level 2 ≡ false → Reader.tier inner (level - 1) ts ≡ Some (x, left)
     → Reader.tier inner level ts ≡ made_of (level - 1) x (operators (level - 1) (Reader.tier inner (level - 1)) (length left) left)
 tier_more inner level ts x left some h e =
@@ -168,14 +151,6 @@ some_operands k sub (w ∷ ws) h left e =
     by_first : (o : Outcome Expr) → (o >>= (λ r. operators k sub (length ws) r.1 >>= (λ q. Some ((w, r.0) ∷ q.0, q.1)))) ≡ Some ([], left) → ⊥
     by_first None e = cc
     by_first (Some r) e = by_rest r.0 (operators k sub (length ws) r.1) e
-
-pub made_none : {B : Type 0} (f : Term × Expr → B) (k : ℕ) (x : Expr) (o : Read) → mapped f o ≡ None → made_of k x o ≡ None
-made_none f k x None h = refl
-made_none f k x (Some q) h = cc
-
-pub front_none : {B : Type 0} (found : List B) (o : Outcome (List B)) → with_front found o ≡ None → o ≡ None
-front_none found None h = refl
-front_none found (Some q) h = cc
 
 parts : {A : Type 0} (x y : A) (a b : List Term) → ◌≡◌ {A = Outcome A} (Some (x, a)) (Some (y, b)) → (x ≡ y) × (a ≡ b)
 parts {A} x y a b h =

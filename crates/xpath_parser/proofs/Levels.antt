@@ -7,7 +7,7 @@ use Rattle.xpath_parser.specs.declared.term.Term.{Term}
 use Rattle.xpath_parser.specs.declared.term.Term.TheVariants as t
 use Rattle.xpath_parser.specs.Grammar as g
 use Rattle.xpath_parser.specs.Grammar.{tier_of, Node, Reads, Operands}
-use Rattle.xpath_parser.specs.Levels.{ends_operand, is_minus, with_operator_of, operators_of}
+use Rattle.xpath_parser.specs.Levels.{is_minus, with_operator_of, operators_of}
 
 -- ---- one term
 
@@ -57,12 +57,12 @@ abbrev chosen : ℕ → ℕ → Operands → List Term
 chosen j d [] = []
 chosen j d (p ∷ ps) = with_operator_of j d true p.0 (chosen j d ps)
 
--- of tier j or in brackets, before other terms: at an operand's place, behind an operand, at either
+-- of tier j or in brackets, before other terms: at an operand's place, after an operand, at either
 abbrev Front : ℕ → List Term → Type 0
 Front k ts = (j d : ℕ) (more : List Term) → j ≤ 8 → k < j + 9 * d → operators_of j d false (ts ++ more) ≡ operators_of j d true more
 
-abbrev Behind : List Term → Type 0
-Behind ts = (j d : ℕ) (more : List Term) → j ≤ 8 → 0 < j + 9 * d → operators_of j d true (ts ++ more) ≡ operators_of j d true more
+abbrev After : List Term → Type 0
+After ts = (j d : ℕ) (more : List Term) → j ≤ 8 → 0 < j + 9 * d → operators_of j d true (ts ++ more) ≡ operators_of j d true more
 
 abbrev Either : List Term → Type 0
 Either ts = (j d : ℕ) (b : Bool) (more : List Term) → j ≤ 8 → 0 < j + 9 * d → operators_of j d b (ts ++ more) ≡ operators_of j d true more
@@ -73,7 +73,7 @@ Cut ts (g.rest k ps) = k < 8 → (j d : ℕ) (more : List Term) → j ≤ 8 → 
 Cut ts (g.signed n x) = Front 1 ts
 Cut ts (g.primary x) = Either ts
 Cut ts (g.args xs) = (j d : ℕ) (more : List Term) → j ≤ 8 → operators_of j (suc d) false (ts ++ more) ≡ operators_of j (suc d) true more
-Cut ts (g.preds xs) = Behind ts
+Cut ts (g.preds xs) = After ts
 Cut ts (g.test n) = Either ts
 Cut ts (g.step s) = Either ts
 Cut ts (g.steps ss) = Either ts
@@ -82,18 +82,18 @@ Cut ts (g.steps ss) = Either ts
 one_term : (w : Term) → tier_of w ≡ 0 → ((j d : ℕ) (b : Bool) (more : List Term) → operators_of j d b (w ∷ more) ≡ with_operator_of j d b w (operators_of j d true more)) → Either (w ∷ [])
 one_term w o next = λ j d b more l s. next j d b more ∙ low j d b w (operators_of j d true more) (omega (arith, o, s))
 
-either_both : (ts a b : List Term) → ts ≡ a ++ b → Either a → Behind b → Either ts
+either_both : (ts a b : List Term) → ts ≡ a ++ b → Either a → After b → Either ts
 either_both ts a b is p q = λ j d c more l s. ap (λ v. operators_of j d c (v ++ more)) is ∙ ap (operators_of j d c) (append_assoc a b more) ∙ p j d c (b ++ more) l s ∙ q j d more l s
 
-behind_both : (ts a b : List Term) → ts ≡ a ++ b → Behind a → Behind b → Behind ts
-behind_both ts a b is p q = λ j d more l s. ap (λ v. operators_of j d true (v ++ more)) is ∙ ap (operators_of j d true) (append_assoc a b more) ∙ p j d (b ++ more) l s ∙ q j d more l s
+after_both : (ts a b : List Term) → ts ≡ a ++ b → After a → After b → After ts
+after_both ts a b is p q = λ j d more l s. ap (λ v. operators_of j d true (v ++ more)) is ∙ ap (operators_of j d true) (append_assoc a b more) ∙ p j d (b ++ more) l s ∙ q j d more l s
 
 -- a term of no tier before what begins no sign
 then_either : (w : Term) (ts : List Term) (v : Bool) → tier_of w ≡ 0 → ((j d : ℕ) (b : Bool) (more : List Term) → operators_of j d b (w ∷ more) ≡ with_operator_of j d b w (operators_of j d v more)) → Either ts → Either (w ∷ ts)
 then_either w ts v o next p = λ j d b more l s. next j d b (ts ++ more) ∙ low j d b w (operators_of j d v (ts ++ more)) (omega (arith, o, s)) ∙ p j d v more l s
 
-as_behind : (ts : List Term) → Either ts → Behind ts
-as_behind ts p = λ j d more l s. p j d true more l s
+as_after : (ts : List Term) → Either ts → After ts
+as_after ts p = λ j d more l s. p j d true more l s
 
 as_front : (ts : List Term) → Either ts → Front 0 ts
 as_front ts p = λ j d more l s. p j d false more l s
@@ -105,7 +105,7 @@ round_cut ts p = λ j d b more l s. ap (operators_of j (suc d) false) (append_as
 inside : (ts : List Term) → Front 8 ts → (j d : ℕ) (more : List Term) → j ≤ 8 → operators_of j (suc d) false (ts ++ more) ≡ operators_of j (suc d) true more
 inside ts p j d more l = p j (suc d) more l (omega arith)
 
-square_cut : (ts a b : List Term) → ts ≡ a ++ t.CloseSquare ∷ b → Front 8 a → Behind b → Behind (t.OpenSquare ∷ ts)
+square_cut : (ts a b : List Term) → ts ≡ a ++ t.CloseSquare ∷ b → Front 8 a → After b → After (t.OpenSquare ∷ ts)
 square_cut ts a b is p q = λ j d more l s.
     ap (λ v. operators_of j (suc d) false (v ++ more)) is ∙ ap (operators_of j (suc d) false) (append_assoc a (t.CloseSquare ∷ b) more)
     ∙ inside a p j d (t.CloseSquare ∷ (b ++ more)) l ∙ q j d more l s
@@ -145,9 +145,9 @@ cut (g.path_from_root {ts = ts} r) = λ k. as_front (t.Slash ∷ ts) (then_eithe
 cut (g.path_below_root {ts = ts} r) = λ k. as_front (t.DoubleSlash ∷ ts) (then_either t.DoubleSlash ts false refl (λ j d b more. refl) (cut r))
 cut (g.filter {ts = ts} {a = a} {b = b} r q is) = λ k. as_front ts (either_both ts a b is (cut r) (cut q))
 cut (g.filter_path {ts = ts} {a = a} {b = b} {c = c} r q u is) = λ k. as_front ts (either_both ts a (b ++ t.Slash ∷ c) is (cut r)
-    (behind_both (b ++ t.Slash ∷ c) b (t.Slash ∷ c) refl (cut q) (as_behind (t.Slash ∷ c) (then_either t.Slash c true refl (λ j d b more. refl) (cut u)))))
+    (after_both (b ++ t.Slash ∷ c) b (t.Slash ∷ c) refl (cut q) (as_after (t.Slash ∷ c) (then_either t.Slash c true refl (λ j d b more. refl) (cut u)))))
 cut (g.filter_below {ts = ts} {a = a} {b = b} {c = c} r q u is) = λ k. as_front ts (either_both ts a (b ++ t.DoubleSlash ∷ c) is (cut r)
-    (behind_both (b ++ t.DoubleSlash ∷ c) b (t.DoubleSlash ∷ c) refl (cut q) (as_behind (t.DoubleSlash ∷ c) (then_either t.DoubleSlash c false refl (λ j d b more. refl) (cut u)))))
+    (after_both (b ++ t.DoubleSlash ∷ c) b (t.DoubleSlash ∷ c) refl (cut q) (as_after (t.DoubleSlash ∷ c) (then_either t.DoubleSlash c false refl (λ j d b more. refl) (cut u)))))
 cut (g.signs r) = λ k j d more l s. cut r j d more l (omega (arith, s))
 cut (g.no_sign r) = cut r (omega arith)
 cut (g.sign {ts = ts} r) = λ j d more l s. sign_next j d (ts ++ more) ∙ cut r j d more l s
@@ -184,8 +184,8 @@ cut (g.step_axis {ts = ts} {a = a} {b = b} {axis = axis} r q is) =
 cut g.step_self = one_term t.Dot refl (λ j d b more. refl)
 cut g.step_parent = one_term t.DotDot refl (λ j d b more. refl)
 cut (g.steps_one r) = cut r
-cut (g.steps_more {ts = ts} {a = a} {b = b} r q is) = either_both ts a (t.Slash ∷ b) is (cut r) (as_behind (t.Slash ∷ b) (then_either t.Slash b true refl (λ j d b more. refl) (cut q)))
-cut (g.steps_below {ts = ts} {a = a} {b = b} r q is) = either_both ts a (t.DoubleSlash ∷ b) is (cut r) (as_behind (t.DoubleSlash ∷ b) (then_either t.DoubleSlash b false refl (λ j d b more. refl) (cut q)))
+cut (g.steps_more {ts = ts} {a = a} {b = b} r q is) = either_both ts a (t.Slash ∷ b) is (cut r) (as_after (t.Slash ∷ b) (then_either t.Slash b true refl (λ j d b more. refl) (cut q)))
+cut (g.steps_below {ts = ts} {a = a} {b = b} r q is) = either_both ts a (t.DoubleSlash ∷ b) is (cut r) (as_after (t.DoubleSlash ∷ b) (then_either t.DoubleSlash b false refl (λ j d b more. refl) (cut q)))
 
 -- ---- whole levels
 

@@ -15,7 +15,7 @@ use Rattle.xpath_parser.specs.Terms.{terms_over, is_open, is_close, is_refused, 
 use Rattle.xpath_parser.specs.Grammar.{ReadsWhole}
 use Rattle.xpath_parser.specs.Reader as reader
 use Rattle.xpath_parser.specs.Shapes.{takes, is_well_typed}
-use Rattle.xpath_parser.specs.Reading.{most_bytes}
+use Rattle.xpath_lexer.specs.Places.{most_xpath}
 use Rattle.xpath_parser.specs.Faults as f
 use Rattle.xpath_parser.specs.Faults.{IsFit, IsFaultOver, IsXPathFault, first_fault, fault_at, argument_count}
 use Rattle.xpath_parser.specs.Laws.{IsRead, IsRefused, IsReadOver, IsRefusedOver}
@@ -89,7 +89,7 @@ module _ (tests : Known) where
   ]
 
   pub read_or_refused_over : (text : Text) → IsReadOver tests text ⊎ IsRefusedOver tests text
-  read_or_refused_over text = elim (cases_lt most_bytes (length text)) [
+  read_or_refused_over text = elim (cases_lt most_xpath (length text)) [
     | inl long ↦ inr (record { fault = fault.Long; stands = f.too_long long })
     | inr short ↦ elim (spelled_or_not (length text) text (omega arith)) [
       | inr none ↦ inr (record { fault = fault.Text; stands = f.unspelled short none })

@@ -1,6 +1,7 @@
 -- The shape of an expression at each form.
-use Rattle.std.proofs.Common.{◌≡◌, refl, sym, ◌∙◌, ap, ℕ, suc, Bool, true, false, ◌&&◌, List, [], ◌∷◌, map, length, ℤ, slice_get, Some, ◌+◌, ◌<◌, drop, get_or}
+use Rattle.std.proofs.Common.{◌≡◌, refl, sym, ◌∙◌, ap, ℕ, Bool, true, false, ◌&&◌, List, [], ◌∷◌, map, length, ℤ, slice_get, Some, ◌+◌, ◌<◌, drop, get_or}
 use Rattle.std.specs.List.{list_all}
+use Rattle.std.proofs.lemmas.List.{length-map}
 use Rattle.xpath_values.specs.declared.value.Shape.{Shape}
 use Rattle.xpath_values.specs.declared.value.Shape.TheVariants as shape
 use Rattle.xpath_parser.specs.declared.expression.Func.{Func}
@@ -35,10 +36,6 @@ all_right es = all_map typing (λ m. m.right) es ∙ all_same (λ x. (typing x).
 
 all_fit : (wanted : Bool) (es : List Expr) → list_all (λ m. m.right && if_wanted wanted m.shape) (map typing es) ≡ list_all (fits wanted) es
 all_fit wanted es = all_map typing (λ m. m.right && if_wanted wanted m.shape) es
-
-length_map : {A B : Type 0} (f : A → B) (xs : List A) → length (map f xs) ≡ length xs
-length_map f [] = refl
-length_map f (x ∷ xs) = ap suc (length_map f xs)
 
 pub at_operand : (o : Operand) → operand_typed o ≡ ((out-Operand o).op, typing (out-Operand o).value)
 unfolding typing start_right operand_typed step_right
@@ -98,7 +95,7 @@ at_number n = ap typing (sym (e.rolls-Number n)) ∙ fold-roll-Expr Typing Bool 
 
 pub at_call : (g : Func) (es : List Expr) → typing (e.Call g es) ≡ typed (function_shape g) (takes g (length es) && list_all (fits (wants_nodes g)) es)
 unfolding typing start_right operand_typed step_right
-at_call g es = ap typing (sym (e.rolls-Call g es)) ∙ fold-roll-Expr Typing Bool (Infix × Typing) Bool expr_typing start_typing operand_typing step_typing (open_.Call g es) ∙ ap (λ n. typed (function_shape g) (takes g n && list_all (λ m. m.right && if_wanted (wants_nodes g) m.shape) (map typing es))) (length_map typing es)
+at_call g es = ap typing (sym (e.rolls-Call g es)) ∙ fold-roll-Expr Typing Bool (Infix × Typing) Bool expr_typing start_typing operand_typing step_typing (open_.Call g es) ∙ ap (λ n. typed (function_shape g) (takes g n && list_all (λ m. m.right && if_wanted (wants_nodes g) m.shape) (map typing es))) (length-map es typing)
     ∙ ap (λ b. typed (function_shape g) (takes g (length es) && b)) (all_fit (wants_nodes g) es)
 
 -- ---- what serves the code's own functions

@@ -1,25 +1,18 @@
 -- Loops over tokens, terms, digits and rows of tables.
-use Rattle.std.proofs.Common.{◌≡◌, refl, sym, ◌∙◌, ap, subst, ℕ, zero, suc, ◌+◌, ◌-◌, ◌*◌, ◌<◌, ◌≤◌, Bool, true, false, cond, nat_le, List, [], ◌∷◌, length, map, drop, take, count_by, get_or, Option, Some, None, ◌↔◌, arith}
+use Rattle.std.proofs.Common.{◌≡◌, refl, sym, ◌∙◌, ap, subst, ℕ, zero, suc, ◌+◌, ◌-◌, ◌*◌, ◌<◌, ◌≤◌, Bool, true, false, cond, nat_le, List, [], ◌∷◌, length, map, drop, take, count_by, get_or, ◌↔◌, arith}
 use Rattle.std.proofs.lemmas.Bool.Decides.{nat_tests}
 use Rattle.std.proofs.Math.Seq.{drop-cons}
 use Rattle.std.specs.List.{fold}
-use Rattle.std.specs.Str.{bytes_eq}
+use Rattle.text_base.specs.Text.{digits_value}
 use Rattle.xpath_lexer.specs.Tokens.{Text, Lexeme}
 use Rattle.xpath_lexer.specs.Places.{lexeme_of}
 use Rattle.xpath_lexer.specs.declared.token.XTok.{XTok}
-use Rattle.xpath_parser.specs.Terms.{named_in, digits_value, is_open, is_close, most_open, IsShallow}
+use Rattle.xpath_values.specs.Numbers.{largest_whole}
+use Rattle.xpath_parser.specs.Terms.{is_open, is_close, most_open, IsShallow}
 use Rattle.xpath_parser.specs.Depth.{one, ShallowFrom}
 
 pub here : {A : Type 0} (xs : List A) (i : ℕ) (x : A) → i < length xs → x ≡ get_or xs i x → drop i xs ≡ x ∷ drop (i + 1) xs
 here xs i x l e = drop-cons xs i x l ∙ ap (λ y. y ∷ drop (suc i) xs) (sym e) ∙ ap (λ n. x ∷ drop n xs) (let f : suc i ≡ i + 1 = omega arith in f)
-
--- ---- tables of names
-
-pub named_here : {A : Type 0} (p : Text × A) (ps : List (Text × A)) (n : Text) → bytes_eq n p.0 ≡ true → named_in (p ∷ ps) n ≡ Some p.1
-named_here p ps n h = rw h refl
-
-pub named_later : {A : Type 0} (p : Text × A) (ps : List (Text × A)) (n : Text) → bytes_eq n p.0 ≡ false → named_in (p ∷ ps) n ≡ named_in ps n
-named_later p ps n h = rw h refl
 
 -- ---- digits
 
@@ -28,13 +21,13 @@ value_grows v [] = omega arith
 value_grows v (d ∷ ds) = let more = value_grows (v * 10 + (d - 48)) ds in omega arith
 
 pub too_large : (ds : Text) (i v : ℕ) → i < length ds → fold (λ n d. n * 10 + (d - 48)) v (drop i ds) ≡ digits_value ds
-    → 9007199254740991 < v * 10 + (get_or ds i 0 - 48) → nat_le (digits_value ds) 9007199254740991 ≡ false
+    → largest_whole < v * 10 + (get_or ds i 0 - 48) → nat_le (digits_value ds) largest_whole ≡ false
 too_large ds i v l h large =
     let d = get_or ds i 0 in
     let cut : drop i ds ≡ d ∷ drop (suc i) ds = drop-cons ds i 0 l in
     let all : fold (λ n d. n * 10 + (d - 48)) (v * 10 + (d - 48)) (drop (suc i) ds) ≡ digits_value ds = sym (ap (fold (λ n d. n * 10 + (d - 48)) v) cut) ∙ h in
     let more = value_grows (v * 10 + (d - 48)) (drop (suc i) ds) in
-    let far : 9007199254740991 < digits_value ds = omega (arith, all, more, large) in
+    let far : largest_whole < digits_value ds = omega (arith, all, more, large) in
     grind (arith, nat_tests, far)
 
 -- ---- brackets

@@ -10,7 +10,7 @@ use Rattle.xpath_parser.specs.declared.term.Term.TheVariants as t
 use Rattle.xpath_parser.specs.Terms.{terms_over, IsShallow}
 use Rattle.xpath_parser.specs.Grammar.{ReadsWhole}
 use Rattle.xpath_parser.specs.Shapes.{takes, is_well_typed}
-use Rattle.xpath_parser.specs.Reading.{most_bytes}
+use Rattle.xpath_lexer.specs.Places.{most_xpath}
 
 -- ---- the refusals that stand at one token
 
@@ -88,15 +88,15 @@ first_fault (w ∷ ts) = or_later (fault_at w ts) (first_fault ts)
 
 -- The tokens spell the text, which is not too long, and not too many brackets are open.
 pub record IsFit (text : Text) (ws : List Lexeme) : Type 0 where
-  pub short : length text ≤ most_bytes
+  pub short : length text ≤ most_xpath
   pub spelled : Spells text ws
   pub shallow : IsShallow ws
 
 -- why the text reads as no expression where these tests are stored
 pub data IsFaultOver (tests : Known) (text : Text) : XPathFault → Type 0 where
-  too_long : most_bytes < length text → IsFaultOver tests text fault.Long
-  unspelled : length text ≤ most_bytes → ((ws : List Lexeme) → Spells text ws → ⊥) → IsFaultOver tests text fault.Text
-  too_deep : {ws : List Lexeme} → length text ≤ most_bytes → Spells text ws → (IsShallow ws → ⊥) → IsFaultOver tests text fault.Deep
+  too_long : most_xpath < length text → IsFaultOver tests text fault.Long
+  unspelled : length text ≤ most_xpath → ((ws : List Lexeme) → Spells text ws → ⊥) → IsFaultOver tests text fault.Text
+  too_deep : {ws : List Lexeme} → length text ≤ most_xpath → Spells text ws → (IsShallow ws → ⊥) → IsFaultOver tests text fault.Deep
   unread : {ws : List Lexeme} → IsFit text ws → ((x : Expr) → ReadsWhole (terms_over tests ws) x → ⊥) → IsFaultOver tests text fault.Syntax
   at_token : {ws : List Lexeme} {x : Expr} {f : XPathFault} → IsFit text ws → ReadsWhole (terms_over tests ws) x → first_fault (terms_over tests ws) ≡ Some f → IsFaultOver tests text f
   wrong_type : {ws : List Lexeme} {x : Expr} → IsFit text ws → ReadsWhole (terms_over tests ws) x → first_fault (terms_over tests ws) ≡ None → is_well_typed x ≡ false → IsFaultOver tests text fault.WrongType

@@ -1,11 +1,11 @@
 -- What serves the contracts of the code that reads terms from the left.
-use Rattle.std.specs.Prelude.{◌≡◌, ◌≢◌, ℕ, Bool, true, false, ◌==◌, ◌+◌, if◌then◌else◌, List, ◌++◌, map, Option, Some, None, Result, Ok, Err}
+use Rattle.std.specs.Prelude.{◌≡◌, ◌≢◌, ℕ, Bool, false, ◌==◌, ◌+◌, if◌then◌else◌, List, ◌++◌, map, Option, Some, None, Result, Ok, Err}
 use Rattle.std.specs.declared.alloc.Global.{Global}
 use denote.Ref.{MutBor}
 use Rattle.xpath_parser.specs.declared.expression.Expr.{Expr}
 use Rattle.xpath_parser.specs.declared.expression.Expr.TheVariants as e
 use Rattle.xpath_parser.specs.declared.refusal.Refusal.{Refusal}
-use Rattle.xpath_parser.specs.declared.refusal.Refusal.TheVariants.{Memory, Syntax}
+use Rattle.xpath_parser.specs.declared.refusal.Refusal.TheVariants.{Memory}
 use Rattle.xpath_parser.specs.declared.term.Term.{Term}
 use Rattle.xpath_parser.specs.Grammar.{tier_of, made, Operands}
 use Rattle.xpath_parser.specs.Reader.{Outcome, ◌>>=◌, expr}

@@ -2,6 +2,7 @@
 use Rattle.std.specs.Prelude.{◌≡◌, ℕ, ◌≤◌, true, false, List, [], length}
 use Rattle.std.specs.List.{list_any}
 use Rattle.test_registry.specs.Names.{Known}
+use Rattle.xpath_lexer.specs.Places.{most_xpath}
 use Rattle.xpath_lexer.specs.Tokens.{Text, Lexeme, Spells}
 use Rattle.xpath_parser.specs.declared.expression.Expr.{Expr}
 use Rattle.xpath_parser.specs.Terms.{terms_over, is_refused, IsShallow}
@@ -10,12 +11,12 @@ use Rattle.xpath_parser.specs.Shapes.{is_well_typed}
 
 -- the most bytes of an XPath text
 abbrev pub most_bytes : ℕ
-most_bytes = 1048576
+most_bytes = most_xpath
 
 -- The text reads as the expression where these tests are stored, and is refused for no reason: it is not too long, tokens spell it, not too many brackets are
 -- open, the grammar reads its terms, none of them is refused, and the expression is well typed.
 pub record ReadsOver (tests : Known) (text : Text) (x : Expr) : Type 0 where
-  pub short : length text ≤ most_bytes
+  pub short : length text ≤ most_xpath
   pub lexemes : List Lexeme
   pub spelled : Spells text lexemes
   pub shallow : IsShallow lexemes

@@ -1,15 +1,17 @@
 -- The lexical rule of XPath 1.0, section 3.7: what a token is, by the token before it and the token after it.
-use Rattle.std.specs.Prelude.{ℕ, ◌+◌, ◌-◌, ◌*◌, ◌≤◌, Bool, true, false, ◌==◌, nat_le, if◌then◌else◌, List, [], ◌∷◌, length, take, count_by, Option, Some, None, codes, pos}
-use Rattle.std.specs.List.{list_any, fold}
-use Rattle.std.specs.Str.{chars, bytes_eq}
+use Rattle.std.specs.Prelude.{ℕ, ◌+◌, ◌≤◌, Bool, true, false, ◌==◌, nat_le, if◌then◌else◌, List, [], ◌∷◌, length, take, count_by, Option, Some, None, codes, pos}
+use Rattle.std.specs.List.{list_any}
+use Rattle.std.specs.Str.{chars}
 use Rattle.doc_model.specs.declared.Axis.{Axis}
 use Rattle.doc_model.specs.declared.Axis.TheVariants as axis
 use Rattle.test_registry.specs.declared.kinds.TestKind.{TestKind}
-use Rattle.text_base.specs.Names.{named_in as kind_of}
+use Rattle.text_base.specs.Names.{named_in}
+use Rattle.text_base.specs.Text.{digits_value}
 use Rattle.test_registry.specs.Names.{Known}
 use Rattle.xpath_lexer.specs.declared.token.XKind.{XKind}
 use Rattle.xpath_lexer.specs.declared.token.XKind.TheVariants as k
 use Rattle.xpath_lexer.specs.Tokens.{Text, Lexeme}
+use Rattle.xpath_values.specs.Numbers.{largest_whole}
 use Rattle.xpath_parser.specs.declared.expression.Func.{Func}
 use Rattle.xpath_parser.specs.declared.expression.Func.TheVariants as f
 use Rattle.xpath_parser.specs.declared.term.NodeType.{NodeType}
@@ -18,11 +20,6 @@ use Rattle.xpath_parser.specs.declared.term.Term.{Term}
 use Rattle.xpath_parser.specs.declared.term.Term.TheVariants as t
 
 -- ---- the names of section 2.2, 2.3, 3.3 to 3.5 and 4
-
--- what a name stands for in a table of names
-abbrev pub named_in : {A : Type 0} → List (Text × A) → Text → Option A
-named_in [] n = None
-named_in (p ∷ ps) n = if bytes_eq n p.0 then Some p.1 else named_in ps n
 
 unfoldable pub axis_names : List (Text × Axis)
 axis_names =
@@ -73,7 +70,7 @@ or_stored None None = None
 -- the function of that name, where these tests are stored
 abbrev pub function_of : Known → Text → Option Func
 function_of [] w = named_in function_names w
-function_of (p ∷ ps) w = or_stored (named_in function_names w) (kind_of (p ∷ ps) w)
+function_of (p ∷ ps) w = or_stored (named_in function_names w) (named_in (p ∷ ps) w)
 
 -- a name before `(` is a node type, or else a function's
 abbrev pub called_term_over : Known → Option NodeType → Text → Term
@@ -92,13 +89,10 @@ name_term_over tests _ w = t.Name (chars w)
 abbrev pub name_term : Option XKind → Text → Term
 name_term next w = name_term_over [] next w
 
-abbrev pub digits_value : Text → ℕ
-digits_value ds = fold (λ n d. n * 10 + (d - 48)) 0 ds
-
 abbrev pub number_term : Text → Term
 number_term w =
     if list_any (λ b. b == 46) w then t.Fraction else
-    if nat_le (digits_value w) 9007199254740991 then t.Number (pos (digits_value w)) else t.TooLarge
+    if nat_le (digits_value w) largest_whole then t.Number (pos (digits_value w)) else t.TooLarge
 
 -- What a token is. `after` says that the token before it is there and is none of `@`, `::`, `(`, `[`, `,` and an operator.
 abbrev pub term_of_over : Known → Bool → XKind → Text → Option XKind → Term

@@ -1,6 +1,7 @@
 //! The names of XPath 1.0, sections 2.2, 2.3, 3.3 to 3.5 and 4.
 ghost use Rattle.std.specs.Prelude.{◌≡◌, map};
-ghost use Rattle.xpath_parser.specs.Terms.{named_in, axis_names, node_type_names, function_names, operator_names};
+ghost use Rattle.text_base.specs.Names.{named_in};
+ghost use Rattle.xpath_parser.specs.Terms.{axis_names, node_type_names, function_names, operator_names};
 ghost use Rattle.xpath_parser.specs.Names.{entry};
 
 use crate::expression::Func;

@@ -1,21 +1,21 @@
 //! Numbers of XPath 1.0, section 3.7.
 ghost use Rattle.std.specs.Prelude.{◌≡◌, ◌==◌, if◌then◌else◌, nat_le, Some, None, pos};
 ghost use Rattle.std.specs.List.{list_any};
-ghost use Rattle.xpath_parser.specs.Terms.{digits_value, number_term};
+ghost use Rattle.text_base.specs.Text.{digits_value};
+ghost use Rattle.xpath_values.specs.Numbers.{largest_whole};
+ghost use Rattle.xpath_parser.specs.Terms.{number_term};
 
 use crate::term::Term;
+use xpath_values::LARGEST_WHOLE;
 
-/// 2^53 - 1
-const LARGEST: u64 = 9_007_199_254_740_991;
-
-/// The value of digits, if it is at most 2^53 - 1.
+/// The value of digits, if it is at most the largest whole number.
 fn digits_value(digits: &[u8]) -> Option<i64>
-    ensures { result ≡ (if nat_le (digits_value digits.now) 9007199254740991 then Some (pos (digits_value digits.now)) else None) }
+    ensures { result ≡ (if nat_le (digits_value digits.now) largest_whole then Some (pos (digits_value digits.now)) else None) }
 {
     let mut value = 0u64;
     for digit in digits {
         value = value * 10 + digit.saturating_sub(b'0') as u64;
-        if value > LARGEST {
+        if value > LARGEST_WHOLE {
             return None;
         }
     }

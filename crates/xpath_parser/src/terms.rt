@@ -3,6 +3,7 @@ ghost use Rattle.std.specs.Prelude.{◌≡◌, [], None, IfOk, drop, map};
 ghost use Rattle.test_registry.specs.View.{known};
 ghost use Rattle.xpath_lexer.specs.declared.token.XKind.TheVariants as kind;
 ghost use Rattle.xpath_lexer.specs.Places.{lexeme_of};
+ghost use Rattle.text_base.specs.Names.{named_in};
 ghost use Rattle.xpath_parser.specs.Terms as spec;
 
 use crate::expression::Func;
@@ -17,7 +18,7 @@ use xpath_lexer::{XKind, XTok};
 /// A name at an operator's place.
 #[tactic(auto, unfolding(crate::specs::Terms::operator_names))]
 fn operator_term(name: &str) -> Term
-    ensures { result ≡ spec.operator_term (spec.named_in spec.operator_names name.now) }
+    ensures { result ≡ spec.operator_term (named_in spec.operator_names name.now) }
 {
     if name == "or" {
         Term::Or
@@ -34,7 +35,7 @@ fn operator_term(name: &str) -> Term
 
 /// A name before `::`.
 fn axis_term(name: &str) -> Term
-    ensures { result ≡ spec.axis_term (spec.named_in spec.axis_names name.now) }
+    ensures { result ≡ spec.axis_term (named_in spec.axis_names name.now) }
 {
     match axis_named(name) {
         Some(axis) => Term::Axis(axis),
@@ -57,7 +58,7 @@ fn function_of(tests: &Tests, name: &str) -> Option<Func>
 
 /// A name before `(`.
 fn called_term(tests: &Tests, name: &str) -> Term
-    ensures { result ≡ spec.called_term_over (known tests.now) (spec.named_in spec.node_type_names name.now) name.now }
+    ensures { result ≡ spec.called_term_over (known tests.now) (named_in spec.node_type_names name.now) name.now }
 {
     if let Some(kind) = node_type_named(name) {
         return Term::NodeType(kind);

@@ -1,7 +1,7 @@
-use Rattle.std.proofs.Common.{arith, map, drop, ◌+◌, ◌≤◌}
+use Rattle.std.proofs.Common.{arith, map, drop, ◌+◌}
 use Rattle.xpath_lexer.specs.Places.{lexeme_of}
 use Rattle.xpath_parser.specs.Terms.{IsShallow}
-use Rattle.xpath_parser.proofs.Walks.{shallow_turn, too_deep, shallow_end, shallow_begin}
+use Rattle.xpath_parser.proofs.Walks.{shallow_turn, too_deep}
 use Rattle.xpath_parser.proofs.depth.is_shallow.Goals as goal
 
 pub returns-then-open-close-clause-deep : goal.returns-then-open-close-clause-deep

@@ -1,4 +1,4 @@
-use Rattle.std.specs.Prelude.{◌≡◌, ◌≤◌, ◌+◌, ◌↔◌, drop, map}
+use Rattle.std.specs.Prelude.{◌≤◌, ◌+◌, ◌↔◌, drop, map}
 use Rattle.xpath_lexer.specs.Places.{lexeme_of}
 use Rattle.xpath_parser.specs.Terms.{most_open, IsShallow}
 use Rattle.xpath_parser.specs.Depth.{ShallowFrom}

@@ -1,5 +1,5 @@
 use Rattle.std.specs.Prelude.{◌≡◌, drop, map}
-use Rattle.xpath_parser.specs.Terms.{named_in}
+use Rattle.text_base.specs.Names.{named_in}
 use Rattle.xpath_parser.specs.Names.{entry}
 use Rattle.xpath_parser.proofs.names.named.Given as goal
 

@@ -6,7 +6,7 @@ use Rattle.xpath_lexer.specs.Places.{lexeme_of}
 use Rattle.xpath_parser.specs.declared.expression.Expr.{Expr}
 use Rattle.xpath_parser.specs.Asking.{AsksOnly}
 use Rattle.xpath_parser.specs.Terms.{terms_over}
-use Rattle.xpath_parser.specs.Faults.{IsFit, first_fault, at_token, wrong_type}
+use Rattle.xpath_parser.specs.Faults.{first_fault, at_token, wrong_type}
 use Rattle.xpath_parser.specs.Grammar.{ReadsWhole}
 use Rattle.xpath_parser.specs.Reading.{ReadsOver}
 use Rattle.xpath_parser.specs.Shapes.{is_well_typed}

@@ -2,7 +2,6 @@ use Rattle.std.proofs.Common.{rules, arith, ◌≡◌, refl, sym, ◌∙◌, ap,
 use Rattle.std.proofs.lemmas.Grind.{common_steps}
 use Rattle.std.specs.List.{list_all}
 use Rattle.xpath_values.specs.declared.value.Shape.TheVariants as shape
-use Rattle.xpath_parser.specs.declared.expression.Start.TheVariants as start
 use Rattle.xpath_parser.specs.declared.expression.Expr.TheVariants as e
 use Rattle.xpath_parser.specs.Shapes as spec
 use Rattle.xpath_parser.specs.Typings.{start_right, step_right, operand_typed, operand_right, fits}
