@@ -1,7 +1,6 @@
 -- The length of a comment.
-use Rattle.std.proofs.Common.{◌≡◌, ℕ, zero, suc, ◌+◌, ◌-◌, ◌<◌, ◌≤◌, Bool, true, false, cond, List, [], ◌∷◌, length, get_or, refl, ◌∙◌, ap, subst, arith, eqb-true, ltb, lit<}
+use Rattle.std.proofs.Common.{◌≡◌, ℕ, ◌+◌, ◌-◌, ◌<◌, ◌≤◌, Bool, true, false, cond, List, ◌∷◌, length, get_or, refl, ◌∙◌, ap, subst, arith, eqb-true, ltb}
 use Rattle.std.specs.Prelude.{◌==◌, ◌&&◌}
-use Rattle.std.specs.Str.{IsAscii}
 use Rattle.text_base.proofs.Boundaries.{in_text}
 use Rattle.css_lexer.specs.Comments.{opens_comment, closing_at, comment_len, Comments}
 use Rattle.css_lexer.proofs.EscapeLemmas.{both_true}
@@ -41,15 +40,6 @@ no_comment text i h = undecided (opens_comment text i) (ltb (closing_at text i) 
 
 pub not_closed : (text : List ℕ) (i closing : ℕ) → closing ≡ closing_at text i → length text ≤ closing → 0 ≡ comment_len text i
 not_closed text i closing e l = unclosed (opens_comment text i) (ltb (closing_at text i) (length text)) (closing_at text i + 2 - i) (le_test (closing_at text i) (length text) (omega arith))
-
--- `*/` is ASCII
-pub closing_ascii : IsAscii (42 ∷ 47 ∷ [])
-closing_ascii zero = lit< tt
-closing_ascii (suc zero) = lit< tt
-closing_ascii (suc (suc k)) = lit< tt
-
-pub comments_none : (text : List ℕ) (i : ℕ) → comment_len text i ≡ 0 → Comments text i i
-comments_none text i none = ([], (refl, none))
 
 pub comments_more : (text : List ℕ) (i j k n : ℕ) → n ≡ comment_len text i → k ≡ i + n → 0 < n → Comments text k j → Comments text i j
 comments_more text i j k n e to some later =

@@ -10,7 +10,7 @@ use Rattle.css_lexer.specs.declared.contents.Content.{Content}
 use Rattle.css_lexer.specs.declared.contents.Content.TheVariants.{Name, Double, Single}
 use Rattle.css_lexer.specs.Escapes.{is_break, escape_len, escape_value}
 use Rattle.css_lexer.specs.Contents.{is_plain, newline_len, lost_len, slashed_len, slashed_value, unit_len, unit_value}
-use Rattle.css_lexer.specs.Pushing.{Pushes}
+use Rattle.css_lexer.specs.inner.Pushing.{Pushes}
 use Rattle.css_lexer.proofs.EscapeLemmas.{cases_if, both_true, fits_if, zero_if, escape_fits, no_escape}
 
 break_some : (b : ℕ) → is_break b ≡ true → 0 < b
@@ -19,7 +19,7 @@ break_some b h = grind (arith, nat_tests)
 break_low : (b : ℕ) → is_break b ≡ true → b < 128
 break_low b h = grind (arith, nat_tests)
 
--- the place behind a newline
+-- the place after a newline
 newline_place : (text : List ℕ) (i n : ℕ) → IsUtf8 text → n ≡ newline_len text i → 0 < n → IsPlace text (i + n)
 newline_place text i n utf8 e some =
     let Goal : ℕ → Type 0 = λ m. n ≡ m → IsPlace text (i + n) in
@@ -74,7 +74,7 @@ pub pushes_none : (content : Content) (text : List ℕ) (i n : ℕ) (old new : L
 pushes_none content text i n old new e none is =
     record { value = []; reads = record { places = []; steps = (refl, sym e ∙ none); spelled = refl }; added = is ∙ ap (λ x. old ++ x) (no_unit content text i (sym e ∙ none)) }
 
--- a unit, and what comes behind it
+-- a unit, and what comes after it
 pub pushes_more : (content : Content) (text : List ℕ) (i k n j : ℕ) (old mid new : List ℕ) → n ≡ unit_len content text i → k ≡ i + n → 0 < n → mid ≡ old ++ unit_value content text i → Pushes content text k mid j new → Pushes content text i old j new
 pushes_more content text i k n j old mid new e to some is later =
     let value = unit_value content text i in

@@ -1,12 +1,11 @@
--- Tokens spell every short text, or behind some tokens none begins.
-use Rattle.std.proofs.Common.{◌≡◌, ℕ, zero, suc, ◌+◌, ◌-◌, ◌<◌, ◌≤◌, Bool, true, false, cond, List, [], ◌∷◌, length, get_or, take, drop, flat_map, refl, sym, ◌∙◌, ap, subst, arith, inl, inr, ◌⊎◌, Option, Some, None, eqb-true}
+-- Tokens spell every short text, or after some tokens none begins.
+use Rattle.std.proofs.Common.{◌≡◌, ℕ, zero, suc, ◌+◌, ◌-◌, ◌<◌, ◌≤◌, Bool, true, false, cond, List, [], ◌∷◌, length, get_or, take, drop, flat_map, refl, sym, subst, arith, inl, inr, ◌⊎◌, Option, Some, None, eqb-true}
 use borrow.Author.Tests.{ltb-true}
 use Rattle.std.specs.Prelude.{◌==◌, ◌&&◌, nat_lt, IfSome}
-use Rattle.std.specs.Str.{bytes_eq}
 use Rattle.std.proofs.lemmas.Slice.Eq.{bytes_eq-Decides}
 use Rattle.std.proofs.lemmas.Bool.{cases_lt}
 use Rattle.std.proofs.lemmas.Bool.Decides.{nat_tests}
-use Rattle.text_base.specs.Text.{run_end, is_space5, begins_with, find_where}
+use Rattle.text_base.specs.Text.{is_space5, begins_with}
 use Rattle.text_base.proofs.Boundaries.{in_text}
 use Rattle.text_base.proofs.Places.{find_in}
 use Rattle.text_base.proofs.Runs.{run_end_le, run_end_moves}
@@ -19,7 +18,8 @@ use Rattle.css_lexer.specs.declared.contents.Content.TheVariants as content
 use Rattle.css_lexer.specs.Steps.{Steps}
 use Rattle.css_lexer.specs.Comments.{opens_comment, closing_at, comment_len, Comments}
 use Rattle.css_lexer.specs.Contents.{unit_len, unit_value, Reads}
-use Rattle.css_lexer.specs.Tokens.{is_digit, starts_ident, token, rule_at, kind_of_two, kind_of_one, short_token, symbol_at, name_token, hash_token, quoted_token, NameAt, HashAt, QuotedAt, ReadsBy, TokenAt, Spell, Lexes, Stops, most_bytes}
+use Rattle.text_base.specs.Text.{is_digit}
+use Rattle.css_lexer.specs.Tokens.{starts_ident, rule_at, kind_of_two, kind_of_one, short_token, symbol_at, name_token, hash_token, quoted_token, ReadsBy, TokenAt, Spell, Lexes, Stops, most_selector}
 use Rattle.css_lexer.proofs.ContentLemmas.{unit_fits}
 use Rattle.css_lexer.proofs.EscapeLemmas.{fits_if, both_true, cases_if}
 use Rattle.css_lexer.proofs.SpellLemmas.{ident_moves}
@@ -77,7 +77,7 @@ content_from content text i low = walk (unit_len content text) (length text) (un
 read_of : (content : Content) (text : List ℕ) (i : ℕ) (w : Walk (unit_len content text) i (length text)) → Reads content text i w.end (flat_map (unit_value content text) w.places)
 read_of content text i w = record { places = w.places; steps = w.steps; spelled = refl }
 
--- what stands at a place where the text does not end: a token that ends behind the place, or none
+-- what stands at a place where the text does not end: a token that ends after the place, or none
 abbrev Moves : List ℕ → ℕ → Option CssToken → Type 0
 Moves text i read = IfSome read (λ t. (i < t.to) × (t.to ≤ length text))
 
@@ -184,7 +184,7 @@ token_some text i inside = by_rule (rule_at text i) refl
         begun rule.Single e _ (w.end, _, read_of content.Single text (i + 1) w, refl) (quoted_moves text 39 i w.end _ (omega arith) (omega arith))
     by_rule rule.Symbol e = begun rule.Symbol e _ refl (symbol_moves text i inside)
 
--- the tokens from a place on reach the end of the text, or none begins behind some of them
+-- the tokens from a place on reach the end of the text, or none begins after some of them
 record Reach (text : List ℕ) (i : ℕ) : Type 0 where
   tokens : List CssToken
   spelled : Spell text i tokens (length text)
@@ -231,7 +231,7 @@ tokens_from text (suc more) i low near = by_end (λ k fits far. tokens_from text
     by_end go (inr far) = reach_end text i w far
 
 -- tokens spell a text that is not too long, or it stops
-pub lexes_or_stops : (text : List ℕ) → length text ≤ most_bytes → ((tokens : List CssToken) × Lexes text tokens) ⊎ Stops text
+pub lexes_or_stops : (text : List ℕ) → length text ≤ most_selector → ((tokens : List CssToken) × Lexes text tokens) ⊎ Stops text
 lexes_or_stops text fits = elim (tokens_from text (length text) 0 (omega arith) (omega arith)) [
   | inl r ↦ inl (r.tokens, record { fits = fits; spelled = r.spelled })
   | inr r ↦ inr (record { fits = fits; before = r.before; place = r.place; spelled = r.spelled; inside = r.inside; none = r.none })

@@ -15,7 +15,7 @@ use Rattle.css_lexer.specs.Comments.{Comments}
 use Rattle.css_lexer.specs.Tokens.{starts_name, starts_ident, TokenAt, Spell}
 use Rattle.css_lexer.proofs.EscapeLemmas.{cases_if}
 
--- one token more, and the comments behind it
+-- one token more, and the comments after it
 pub spell_push : (text : List ℕ) (i j k : ℕ) (tokens : List CssToken) (t : CssToken) → Spell text i tokens j → t.from ≡ j → TokenAt text j (Some t) → Comments text t.to k → Spell text i (tokens ++ t ∷ []) k
 spell_push text i j k [] t before from is later =
     (subst (Comments text i) (sym from) before, subst (λ n. TokenAt text n (Some t)) (sym from) is, later)

@@ -1,9 +1,8 @@
 -- Tokens stand in their text, and there are no more of them than bytes.
-use Rattle.std.proofs.Common.{◌≡◌, ℕ, ◌+◌, ◌-◌, ◌<◌, ◌≤◌, Bool, true, false, cond, List, [], ◌∷◌, length, get_or, refl, sym, ◌∙◌, ap, subst, arith, inl, inr, eqb-true}
+use Rattle.std.proofs.Common.{◌≡◌, ℕ, ◌+◌, ◌<◌, ◌≤◌, Bool, true, false, cond, List, [], ◌∷◌, length, get_or, refl, sym, ◌∙◌, subst, arith, inl, inr}
 use Rattle.std.specs.Prelude.{◌==◌, Option, Some, None, All}
 use Rattle.std.specs.Str.{chars}
 use Rattle.std.proofs.lemmas.Bool.{cases_lt}
-use Rattle.std.proofs.lemmas.Bool.Decides.{nat_tests}
 use Rattle.std.proofs.lemmas.List.{get_or_past}
 use Rattle.std.proofs.lemmas.List.Elements.{All-nil, All-cons}
 use Rattle.text_base.specs.Text.{run_end, is_space5}
@@ -16,8 +15,9 @@ use Rattle.css_lexer.specs.declared.rules.Rule.TheVariants as rule
 use Rattle.css_lexer.specs.declared.contents.Content.{Content}
 use Rattle.css_lexer.specs.Steps.{Steps}
 use Rattle.css_lexer.specs.Contents.{unit_len, Reads}
-use Rattle.css_lexer.specs.Comments.{comment_len, Comments}
-use Rattle.css_lexer.specs.Tokens.{token, is_digit, starts_ident, short_token, symbol_at, rule_at, kind_of_two, kind_of_one, NameAt, HashAt, QuotedAt, ReadsBy, TokenAt, Spell, Lexes, most_bytes}
+use Rattle.css_lexer.specs.Comments.{comment_len}
+use Rattle.text_base.specs.Text.{is_digit}
+use Rattle.css_lexer.specs.Tokens.{token, starts_ident, short_token, symbol_at, rule_at, NameAt, HashAt, QuotedAt, ReadsBy, TokenAt, Spell, Lexes, most_selector}
 use Rattle.css_lexer.proofs.EscapeLemmas.{cases_if}
 use Rattle.css_lexer.proofs.SpellLemmas.{ident_moves}
 
@@ -125,5 +125,5 @@ fit text i (t ∷ ts) h =
 pub all_inside : (text : List ℕ) (ts : List CssToken) → Lexes text ts → All (λ t. (t.from ≤ t.to) × (t.to ≤ length text)) ts
 all_inside text ts h = (fit text 0 ts h.spelled).inside
 
-pub few_tokens : (text : List ℕ) (ts : List CssToken) → Lexes text ts → length ts ≤ 16384
+pub few_tokens : (text : List ℕ) (ts : List CssToken) → Lexes text ts → length ts ≤ most_selector
 few_tokens text ts h = let few = (fit text 0 ts h.spelled).few in let fits = h.fits in omega arith

@@ -3,7 +3,7 @@ use Rattle.std.specs.Prelude.{ℕ, ◌+◌, ◌-◌, ◌==◌, ◌&&◌, Bool, L
 use Rattle.text_base.specs.Text.{find_where, begins_with}
 use Rattle.css_lexer.specs.Steps.{Steps}
 
--- where the first `*/` behind the `/*` at i begins, or the text's length
+-- where the first `*/` after the `/*` at i begins, or the text's length
 abbrev pub closing_at : List ℕ → ℕ → ℕ
 closing_at text i = find_where (begins_with (42 ∷ 47 ∷ [])) text (i + 2)
 

@@ -1,6 +1,6 @@
 -- What stands in names and in strings, after Selectors Level 3, section 10 (`nmchar`, `string1` and `string2`).
 use Rattle.std.specs.Prelude.{◌≡◌, ℕ, ◌+◌, ◌-◌, ◌==◌, ◌&&◌, ◌||◌, not, Bool, List, [], flat_map, slice_index, slice_range, nat_le, nat_lt, if◌then◌else◌}
-use Rattle.text_base.specs.Text.{run_end, is_letter}
+use Rattle.text_base.specs.Text.{run_end, is_digit, is_letter}
 use Rattle.css_lexer.specs.declared.contents.Content.{Content}
 use Rattle.css_lexer.specs.declared.contents.Content.TheVariants.{Name, Double, Single}
 use Rattle.css_lexer.specs.Escapes.{is_break, escape_len, escape_value}
@@ -9,7 +9,7 @@ use Rattle.css_lexer.specs.Steps.{Steps}
 -- a byte that stands for itself: in a name a letter, a digit, `-`, `_` or a byte past ASCII, in a string all but its
 -- quote, a newline and a backslash
 abbrev pub is_plain : Content → ℕ → Bool
-is_plain Name b = is_letter b || (nat_le 48 b && nat_le b 57) || (b == 45) || (b == 95) || nat_le 128 b
+is_plain Name b = is_letter b || is_digit b || (b == 45) || (b == 95) || nat_le 128 b
 is_plain Double b = not ((b == 34) || is_break b || (b == 92))
 is_plain Single b = not ((b == 39) || is_break b || (b == 92))
 

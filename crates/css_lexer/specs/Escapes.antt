@@ -31,7 +31,7 @@ abbrev pub is_escapable : List ℕ → ℕ → Bool
 is_escapable text i = nat_lt i (length text) && not (is_break (slice_index text i))
 
 -- How many bytes the escape takes whose backslash stands at i, or 0 where it is none. Of an escaped character past ASCII
--- it is the backslash alone: the bytes behind it stand for themselves there, as they do without it.
+-- it is the backslash alone: the bytes after it stand for themselves there, as they do without it.
 abbrev pub escape_len : List ℕ → ℕ → ℕ
 escape_len text i =
     let b = slice_index text (i + 1) in

@@ -1,4 +1,4 @@
--- Steps of given lengths, one behind the other.
+-- Steps of given lengths, one after the other.
 use Rattle.std.specs.Prelude.{◌≡◌, ℕ, ◌+◌, ◌<◌, List, [], ◌∷◌}
 
 -- from i on a step is made at each of these places, of the length that it has there, and at j, where they end, none can

@@ -1,7 +1,7 @@
 -- The tokens of a selector, after Selectors Level 3, section 10.
 use Rattle.std.specs.Prelude.{◌≡◌, ℕ, ◌+◌, ◌<◌, ◌≤◌, ◌==◌, ◌&&◌, ◌||◌, Bool, List, [], ◌∷◌, length, slice_index, nat_le, nat_lt, if◌then◌else◌, Option, Some, None, Result, Ok, Err}
 use Rattle.std.specs.Str.{chars}
-use Rattle.text_base.specs.Text.{run_end, is_letter, is_space5, IsPlace}
+use Rattle.text_base.specs.Text.{run_end, is_digit, is_letter, is_space5, IsPlace}
 use Rattle.text_base.specs.declared.reasons.SelectorFault.{SelectorFault}
 use Rattle.text_base.specs.declared.reasons.SelectorFault.TheVariants as fault
 use Rattle.css_lexer.specs.declared.tokens.CssKind.{CssKind}
@@ -14,9 +14,6 @@ use Rattle.css_lexer.specs.declared.contents.Content.TheVariants as content
 use Rattle.css_lexer.specs.Escapes.{escape_len}
 use Rattle.css_lexer.specs.Contents.{Reads}
 use Rattle.css_lexer.specs.Comments.{Comments}
-
-abbrev pub is_digit : ℕ → Bool
-is_digit b = nat_le 48 b && nat_le b 57
 
 abbrev pub token : CssKind → ℕ → ℕ → List ℕ → CssToken
 token kind from to value = record { kind = kind; from = from; to = to; value = value }
@@ -81,11 +78,11 @@ short_token i None None = None
 abbrev pub symbol_at : List ℕ → ℕ → Option CssToken
 symbol_at text i = short_token i (kind_of_two (slice_index text i) (slice_index text (i + 1))) (kind_of_one (slice_index text i))
 
--- a Function, where `(` stands behind the name, or an Ident
+-- a Function, where `(` stands after the name, or an Ident
 abbrev pub name_token : List ℕ → ℕ → ℕ → List ℕ → CssToken
 name_token text i j value = if slice_index text j == 40 then token kind.Function i (j + 1) (chars value) else token kind.Ident i j (chars value)
 
--- a string whose quote stands behind its content, or none
+-- a string whose quote stands after its content, or none
 abbrev pub quoted_token : List ℕ → ℕ → ℕ → ℕ → List ℕ → Option CssToken
 quoted_token text quote i j value = if slice_index text j == quote then Some (token kind.Quoted i (j + 1) (chars value)) else None
 
@@ -116,7 +113,7 @@ ReadsBy rule.Symbol text i read = read ≡ symbol_at text i
 abbrev pub TokenAt : List ℕ → ℕ → Option CssToken → Type 0
 TokenAt text i read = ReadsBy (rule_at text i) text i read
 
--- from i up to j stand these tokens, with comments before, between and behind them
+-- from i up to j stand these tokens, with comments before, between and after them
 abbrev pub Spell : List ℕ → ℕ → List CssToken → ℕ → Type 0
 Spell text i [] j = Comments text i j
 Spell text i (t ∷ tokens) j = Comments text i t.from × TokenAt text t.from (Some t) × Spell text t.to tokens j
@@ -128,17 +125,20 @@ pub record SitsIn (text : List ℕ) (t : CssToken) : Type 0 where
   pub ends : IsPlace text t.to
 
 -- the most bytes that a selector may have
+abbrev pub most_selector : ℕ
+most_selector = 16384
+
 abbrev pub most_bytes : ℕ
-most_bytes = 16384
+most_bytes = most_selector
 
 -- the tokens spell the text
 pub record Lexes (text : List ℕ) (tokens : List CssToken) : Type 0 where
-  pub fits : length text ≤ most_bytes
+  pub fits : length text ≤ most_selector
   pub spelled : Spell text 0 tokens (length text)
 
 -- after some tokens no token begins
 pub record Stops (text : List ℕ) : Type 0 where
-  pub fits : length text ≤ most_bytes
+  pub fits : length text ≤ most_selector
   pub before : List CssToken
   pub place : ℕ
   pub spelled : Spell text 0 before place
@@ -148,7 +148,7 @@ pub record Stops (text : List ℕ) : Type 0 where
 -- the tokens of the text, or why it has none
 abbrev pub IsLexed : List ℕ → Result (List CssToken) SelectorFault → Type 0
 IsLexed text (Ok tokens) = Lexes text tokens
-IsLexed text (Err fault.Long) = most_bytes < length text
+IsLexed text (Err fault.Long) = most_selector < length text
 IsLexed text (Err fault.Text) = Stops text
-IsLexed text (Err fault.Memory) = length text ≤ most_bytes
+IsLexed text (Err fault.Memory) = length text ≤ most_selector
 IsLexed text (Err _) = ⊥

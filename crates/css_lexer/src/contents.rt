@@ -3,11 +3,11 @@ ghost use Rattle.std.specs.String.{string_bytes};
 ghost use Rattle.std.specs.Str.{chars};
 ghost use Rattle.text_base.specs.Text.{IsPlace};
 ghost use Rattle.css_lexer.specs.Contents.{newline_len, lost_len, slashed_len, slashed_value, unit_len, unit_value, Reads};
-ghost use Rattle.css_lexer.specs.Pushing.{Pushes};
+ghost use Rattle.css_lexer.specs.inner.Pushing.{Pushes};
 
 use crate::escapes::{is_break, push_escape};
 use std::alloc::{AllocError, Global};
-use text_base::{ByteKind, NoMemory, Txt, byte_at, is_letter, part, run_end};
+use text_base::{ByteKind, NoMemory, Txt, byte_at, is_digit, is_letter, part, run_end};
 
 /// What the content of a token is: a name, or what stands between two quotes.
 #[derive(Clone, Copy)]
@@ -19,18 +19,14 @@ pub(crate) enum Content {
 
 impl ByteKind for Content {
     ghost use Rattle.css_lexer.specs.Contents.{is_plain};
-    ghost use Rattle.css_lexer.specs.Kinds.{plain_wide};
+    ghost use Rattle.css_lexer.specs.inner.Kinds.{plain_wide};
 
     ghost test = { is_plain };
 
     fn has(&self, byte: u8) -> bool {
         match self {
             Content::Name => {
-                is_letter(byte)
-                    || (byte >= b'0' && byte <= b'9')
-                    || byte == b'-'
-                    || byte == b'_'
-                    || byte >= 128
+                is_letter(byte) || is_digit(byte) || byte == b'-' || byte == b'_' || byte >= 128
             }
             Content::Double => !(byte == b'"' || is_break(byte) || byte == b'\\'),
             Content::Single => !(byte == b'\'' || is_break(byte) || byte == b'\\'),

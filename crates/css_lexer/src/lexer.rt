@@ -2,31 +2,33 @@ ghost use Rattle.std.specs.Prelude.{◌≡◌, ◌+◌, ◌<◌, ◌≤◌, [], 
 ghost use Rattle.std.specs.List.{All};
 ghost use Rattle.text_base.specs.Text.{IsPlace};
 ghost use Rattle.css_lexer.specs.Comments.{opens_comment, comment_len, Comments};
-ghost use Rattle.css_lexer.specs.Pushing.{EndsBehind, EndsIfSome};
-ghost use Rattle.css_lexer.specs.Tokens.{starts_ident, symbol_at, token, NameAt, HashAt, QuotedAt, TokenAt, IsLexed, SitsIn, most_bytes};
+ghost use Rattle.css_lexer.specs.inner.Pushing.{EndsAfter, EndsIfSome};
+ghost use Rattle.css_lexer.specs.Tokens.{starts_ident, symbol_at, token, NameAt, HashAt, QuotedAt, TokenAt, IsLexed, SitsIn, most_selector};
 
 use crate::contents::{Content, read_content};
 use crate::rules::{Rule, kind_of_one, kind_of_two, rule_at};
 use crate::tokens::{CssKind, CssToken};
 use sqlite_items::Items;
 use std::alloc::Global;
-use text_base::{ByteKind, NoMemory, SelectorFault, Space5, Txt, byte_at, find_text, run_end};
+use text_base::{
+    ByteKind, NoMemory, SelectorFault, Space5, Txt, byte_at, find_text, is_digit, run_end,
+};
 
 /// The most bytes that a selector may have.
-const MOST_BYTES: usize = 16384;
+pub const SELECTOR_LIMIT: usize = 16384;
 
 /// An ASCII digit.
 #[derive(Clone, Copy)]
 struct Digit;
 
 impl ByteKind for Digit {
-    ghost use Rattle.css_lexer.specs.Tokens.{is_digit};
-    ghost use Rattle.css_lexer.specs.Kinds.{digit_narrow};
+    ghost use Rattle.text_base.specs.Text.{is_digit};
+    ghost use Rattle.css_lexer.specs.inner.Kinds.{digit_narrow};
 
     ghost test = { λ _. is_digit };
 
     fn has(&self, byte: u8) -> bool {
-        byte >= b'0' && byte <= b'9'
+        is_digit(byte)
     }
 
     ghost keeps_characters = { λ _. digit_narrow };
@@ -111,7 +113,7 @@ fn read_name(alloc: Global, text: &str, at: usize) -> Result<CssToken, NoMemory>
     requires place { IsPlace text.now at }
     requires ident { starts_ident text.now at ≡ true }
     ensures name { IfOk result (NameAt text.now at) }
-    ensures ends { IfOk result (EndsBehind text.now at) }
+    ensures ends { IfOk result (EndsAfter text.now at) }
 {
     let read = read_content(alloc, text, Content::Name, at)?;
     if byte_at(text, read.end) == b'(' {
@@ -131,7 +133,7 @@ fn read_name(alloc: Global, text: &str, at: usize) -> Result<CssToken, NoMemory>
     }
 }
 
-/// The Hash at a place, or none where no name character stands behind the `#`.
+/// The Hash at a place, or none where no name character stands after the `#`.
 fn read_hash(alloc: Global, text: &str, at: usize) -> Result<Option<CssToken>, NoMemory>
     requires within { at < length text.now }
     requires hash { slice_index text.now at ≡ 35 }
@@ -150,7 +152,7 @@ fn read_hash(alloc: Global, text: &str, at: usize) -> Result<Option<CssToken>, N
     }))
 }
 
-/// The string at a place, or none where its quote does not stand behind its content.
+/// The string at a place, or none where its quote does not stand after its content.
 fn read_quoted(
     alloc: Global,
     text: &str,
@@ -205,14 +207,14 @@ fn read_token(alloc: Global, text: &str, at: usize) -> Result<Option<CssToken>, 
     }
 }
 
-/// The tokens of a selector, in order. `Long` where the text has more than 16,384 bytes, else `Text`
-/// where behind some tokens no token begins; a comment that does not end is no token. Places are
+/// The tokens of a selector, in order. `Long` where the text has more than `SELECTOR_LIMIT` bytes, else `Text`
+/// where after some tokens no token begins; a comment that does not end is no token. Places are
 /// bytes, values are characters. After Selectors Level 3, section 10.
 pub fn css_tokens(alloc: Global, text: &str) -> Result<Items<CssToken>, SelectorFault>
     ensures lexed { IsLexed text.now result }
     ensures places { IfOk result (All (SitsIn text.now)) }
 {
-    if text.len() > MOST_BYTES {
+    if text.len() > SELECTOR_LIMIT {
         return Err(SelectorFault::Long);
     }
     let mut tokens = Items::new(alloc);

@@ -9,5 +9,5 @@ mod rules;
 mod tokens;
 
 pub use laws::one_list_or_fault;
-pub use lexer::css_tokens;
+pub use lexer::{SELECTOR_LIMIT, css_tokens};
 pub use tokens::{CssKind, CssToken};

@@ -1,5 +1,5 @@
 ghost use Rattle.std.specs.Prelude.{◌≡◌, ◌+◌, ◌<◌, ◌≤◌, IfSome, length};
-ghost use Rattle.css_lexer.specs.Pushing.{Begins};
+ghost use Rattle.css_lexer.specs.inner.Pushing.{Begins};
 ghost use Rattle.css_lexer.specs.Tokens.{starts_name, starts_ident, rule_at, kind_of_two, kind_of_one};
 
 use crate::escapes::escape_len;

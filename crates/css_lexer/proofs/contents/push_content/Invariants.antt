@@ -1,7 +1,7 @@
 use Rattle.std.proofs.Common.{ℕ, List, ◌-◌, ◌≤◌, length}
 use Rattle.std.specs.String.{string_bytes}
 use Rattle.text_base.specs.Text.{IsPlace}
-use Rattle.css_lexer.specs.Pushing.{Pushes}
+use Rattle.css_lexer.specs.inner.Pushing.{Pushes}
 use Rattle.css_lexer.proofs.contents.push_content.Given as goal
 
 abbrev pub invariant-loop-n : goal.invariant-loop-n

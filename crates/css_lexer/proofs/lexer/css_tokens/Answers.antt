@@ -2,7 +2,7 @@ use Rattle.std.proofs.Common.{◌≡◌, [], ◌∷◌, ◌++◌, sym, subst, So
 use Rattle.std.specs.List.{All}
 use Rattle.std.proofs.lemmas.List.Elements.{All-push}
 use Rattle.text_base.specs.Text.{IsPlace}
-use Rattle.css_lexer.specs.Pushing.{EndsIfSome}
+use Rattle.css_lexer.specs.inner.Pushing.{EndsIfSome}
 use Rattle.text_base.proofs.Boundaries.{at_start}
 use Rattle.css_lexer.proofs.SpellLemmas.{spell_push, on_ok}
 use Rattle.css_lexer.proofs.TokenLemmas.{token_from}

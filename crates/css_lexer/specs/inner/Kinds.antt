@@ -6,7 +6,7 @@ use Rattle.text_base.specs.Text.{IsWide, IsNarrow}
 use Rattle.css_lexer.specs.declared.contents.Content.{Content}
 use Rattle.css_lexer.specs.declared.contents.Content.TheVariants.{Name, Double, Single}
 use Rattle.css_lexer.specs.Contents.{is_plain}
-use Rattle.css_lexer.specs.Tokens.{is_digit}
+use Rattle.text_base.specs.Text.{is_digit}
 
 pub plain_wide : (content : Content) → IsWide (is_plain content) ⊎ IsNarrow (is_plain content)
 plain_wide Name = inl (λ b past. grind (arith, nat_tests))

@@ -6,7 +6,8 @@ use Rattle.css_lexer.specs.declared.rules.Rule.{Rule}
 use Rattle.css_lexer.specs.declared.rules.Rule.TheVariants as rule
 use Rattle.css_lexer.specs.declared.tokens.CssToken.{CssToken}
 use Rattle.css_lexer.specs.Contents.{Reads}
-use Rattle.css_lexer.specs.Tokens.{starts_ident, is_digit}
+use Rattle.text_base.specs.Text.{is_digit}
+use Rattle.css_lexer.specs.Tokens.{starts_ident}
 
 -- the content from i up to j is read, and its value is added
 pub record Pushes (content : Content) (text : List ℕ) (i : ℕ) (old : List ℕ) (j : ℕ) (new : List ℕ) : Type 0 where
@@ -24,11 +25,11 @@ Begins rule.Single text i = slice_index text i ≡ 39
 Begins rule.Digits text i = is_digit (slice_index text i) ≡ true
 Begins rule.Symbol text i = Unit {0}
 
--- the token ends behind i, where the text may be cut
-pub record EndsBehind (text : List ℕ) (i : ℕ) (t : CssToken) : Type 0 where
+-- the token ends after i, where the text may be cut
+pub record EndsAfter (text : List ℕ) (i : ℕ) (t : CssToken) : Type 0 where
   pub moves : i < t.to
   pub place : IsPlace text t.to
 
 abbrev pub EndsIfSome : List ℕ → ℕ → Option CssToken → Type 0
 EndsIfSome text i None = Unit {0}
-EndsIfSome text i (Some t) = EndsBehind text i t
+EndsIfSome text i (Some t) = EndsAfter text i t
