@@ -2,7 +2,7 @@
 ghost use Rattle.std.specs.Prelude.{◌<◌, ◌+◌, ◌^◌, [], length};
 ghost use Rattle.doc_model.specs.Document.{IsDocument};
 ghost use Rattle.doc_model.specs.KeptRows.{Kept, rows_of, ends_of, AreEnds};
-ghost use Rattle.doc_model.specs.Props.{is_document_prop};
+ghost use Rattle.doc_model.specs.inner.Props.{is_document_prop};
 ghost use Rattle.std.proofs.Common.{arith};
 ghost use Rattle.std.proofs.lemmas.List.{length-map};
 

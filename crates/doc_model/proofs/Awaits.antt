@@ -1,22 +1,14 @@
 -- Where an attribute or a text may come.
 use Rattle.std.proofs.Common.{◌≡◌, ℕ, zero, suc, ◌-◌, ◌<◌, List, [], ◌∷◌, ◌++◌, length, Bool, true, false, ◌&&◌, cond, sym, refl, ◌∙◌, ap, subst, arith, eqb, lt-ltb, inl, inr}
-use Rattle.std.specs.Prelude.{◌≢◌, not}
+use Rattle.std.specs.Prelude.{◌≢◌}
 use Rattle.std.proofs.lemmas.Bool.{and_parts, and_from, not-true, false_from_ne_true, both_ways, not_from_false, or_left, or_right, eq-eqb, cases_lt}
 use Rattle.std.proofs.lemmas.List.{length_push}
 use Rattle.doc_model.specs.declared.Kind.TheVariants.{Element, Attribute, Text}
 use Rattle.doc_model.specs.Document.{Row, Document, row, is_attribute, is_attribute_kind, is_text_kind, IsLastChildBefore, IsDocument}
 use Rattle.doc_model.specs.Growing.{Growing, innermost, element_row, attr_row, with_element, with_attr, AwaitsAttr, AwaitsText, IsGrowing}
+use Rattle.doc_model.specs.inner.LastChild.{is_child, ends_in_text}
 use Rattle.doc_model.proofs.Below.{small}
 use Rattle.doc_model.proofs.Grown.{pushed_same, pushed_row}
-
--- a child of the row, and no attribute
-abbrev pub is_child : ℕ → Row → Bool
-is_child parent r = eqb r.parent parent && not (is_attribute_kind r.kind)
-
--- whether the last child of the row is a text, attributes left aside; `before` tells it of the rows before these
-abbrev pub ends_in_text : ℕ → Bool → List Row → Bool
-ends_in_text parent before [] = before
-ends_in_text parent before (r ∷ rs) = ends_in_text parent (cond (is_child parent r) (is_text_kind r.kind) before) rs
 
 none : (p : ℕ) (b : Bool) (rs : List Row) → ((z : ℕ) → z < length rs → is_child p (row rs z) ≡ false) → ends_in_text p b rs ≡ b
 none p b [] h = refl
@@ -27,7 +19,8 @@ last_is p b [] y l h k = absurd (omega arith)
 last_is p b (r ∷ rs) zero l h k = ap (λ c. ends_in_text p (cond c (is_text_kind r.kind) b) rs) h ∙ none p (is_text_kind r.kind) rs (λ z m. k (suc z) (omega arith) (omega arith))
 last_is p b (r ∷ rs) (suc y) l h k = last_is p (cond (is_child p r) (is_text_kind r.kind) b) rs y (omega arith) h (λ z m n. k (suc z) (omega arith) (omega arith))
 
-no_text : (doc : Document) (p : ℕ) → ends_in_text p false doc ≡ false → (y : ℕ) → IsLastChildBefore doc p (length doc) y → (row doc y).kind ≢ Text
+-- where the rows do not end in a text, the last child is no text, as the definition of documents says it
+pub no_text : (doc : Document) (p : ℕ) → ends_in_text p false doc ≡ false → (y : ℕ) → IsLastChildBefore doc p (length doc) y → (row doc y).kind ≢ Text
 no_text doc p h y last text =
     let child = and_parts _ _ last.0 in
     let others : ((z : ℕ) → y < z → z < length doc → is_child p (row doc z) ≡ false) =

@@ -9,7 +9,7 @@ use Rattle.doc_model.specs.declared.Axis.TheVariants as axis
 use Rattle.doc_model.specs.Document.{Document, row, is_parent, is_attribute, is_attribute_kind, below, IsDocument}
 use Rattle.doc_model.specs.Axes.{on_axis, are_siblings}
 use Rattle.doc_model.specs.Ends.{IsEnd}
-use Rattle.doc_model.specs.Walks.{IsWalk, EndsAttributes}
+use Rattle.doc_model.specs.inner.Walks.{IsWalk, EndsAttributes}
 use Rattle.doc_model.proofs.Below.{Small, small, below_cases, below_less, below_parent, past_end, not_up}
 
 -- ---- tests
@@ -40,17 +40,6 @@ eqb_comm a b = elim (cases_eq a b) [ inl e ↦ eq-eqb a b e ∙ sym (eq-eqb b a 
 -- the parent of a row below y is y or stands after it
 pub parent_from : (doc : Document) (y z : ℕ) → Small doc → below doc y z ≡ true → y ≤ (row doc z).parent
 parent_from doc y z m h = elim (below_cases doc y z m h) [ inl e ↦ omega arith | inr b ↦ (let l : y < (row doc z).parent = below_less doc y (row doc z).parent m b in omega arith) ]
-
--- nothing is on the axis
-pub no_walk : (doc : Document) (a : Axis) (x : ℕ) → ((y : ℕ) → on_axis doc a x y ≡ false) → IsWalk doc a x 0 0 false
-no_walk doc a x never = record {
-  starts = omega arith;
-  ends = omega arith;
-  before = λ y l. never y;
-  after = λ y l k. never y;
-  within = λ y l k. absurd (omega arith);
-  over = λ h. cc;
-}
 
 -- ---- below the row
 
@@ -116,7 +105,7 @@ no_parent doc y = refl
 
 -- ---- attributes
 
--- behind a row that is no attribute the element has none
+-- after a row that is no attribute the element has none
 past_attributes : (k : ℕ) (doc : Document) (x e : ℕ) → IsDocument doc → EndsAttributes doc x e → e + k < length doc → (row doc (e + k)).kind ≡ Attribute → (row doc (e + k)).parent ≡ x → ⊥
 past_attributes zero doc x e d end l a p =
     let z : e + 0 ≡ e = omega arith in

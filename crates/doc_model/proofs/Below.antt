@@ -73,7 +73,7 @@ less_within (suc n) doc x y m l h =
     let less : (row doc y).parent < y = m y some in
     elim (below_cases doc x y m h) [ inl e ↦ omega arith | inr b ↦ (let deep : x < (row doc y).parent = less_within n doc x (row doc y).parent m (omega arith) b in omega arith) ]
 
--- rows stand behind the row that they are below
+-- rows stand after the row that they are below
 pub below_less : (doc : Document) (x y : ℕ) → Small doc → below doc x y ≡ true → x < y
 below_less doc x y m h = less_within y doc x y m (omega arith) h
 

@@ -5,6 +5,7 @@ pub mod Ending
 pub mod Filters
 pub mod Grown
 mod KeptReads
+pub mod Named
 mod Nearest
 mod Partition
 mod Pushed

@@ -3,13 +3,13 @@ use Rattle.std.proofs.lemmas.Bool.{lt-ltb}
 use Rattle.std.proofs.Common.{◌≡◌, ℕ, suc, ◌+◌, ◌<◌, ◌≤◌, List, [], ◌∷◌, ◌++◌, length, Bool, true, false, ◌&&◌, cond, refl, sym, ◌∙◌, ap, arith, is_some}
 use Rattle.std.specs.Prelude.{filter, reverse, Option, Some, None, slice_get, nat_lt}
 use Rattle.std.specs.List.{range_with_len}
-use Rattle.std.proofs.lemmas.List.{append-nil, length-reverse, reverse-append}
+use Rattle.std.proofs.lemmas.List.{append-nil, reverse-append}
 use Rattle.doc_model.specs.declared.Axis.{Axis}
 use Rattle.doc_model.specs.declared.NodeTest.{NodeTest}
 use Rattle.doc_model.specs.Document.{Document, rows}
 use Rattle.doc_model.specs.Axes.{passes}
 use Rattle.doc_model.specs.RowLists.{IsFront}
-use Rattle.doc_model.specs.Walks.{is_kept, chosen, IsWalk, IsNext}
+use Rattle.doc_model.specs.inner.Walks.{is_kept, chosen, IsWalk, IsNext}
 use Rattle.doc_model.proofs.Filters.{upto_front}
 use Rattle.doc_model.proofs.WalkSteps.{across_more}
 

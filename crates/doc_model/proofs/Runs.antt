@@ -9,8 +9,10 @@ use Rattle.std.proofs.Common.{◌⊎◌, inl, inr, length, take, drop, get_or, n
 use Rattle.std.proofs.Common.{length-drop, append_assoc, Result, Ok, Err}
 use Rattle.std.specs.Prelude.{OnErr, ◌≢◌, IsTrue}
 use Rattle.std.proofs.Math.Seq.{drop-cons, drop-length, take-length}
-use Rattle.std.proofs.lemmas.List.{take_more}
-use Rattle.doc_model.specs.RowLists.{has, Run, in_either, in_any, IsFront, EachIsRun, Follows, taken, taken_by}
+use Rattle.std.proofs.Math.Bool.{or-false}
+use Rattle.std.proofs.lemmas.List.{append-nil, take_more}
+use Rattle.doc_model.specs.RowLists.{has, Run, in_either, in_any, IsFront, EachIsRun}
+use Rattle.doc_model.specs.inner.Merging.{Follows, taken, taken_by}
 
 pub run_le : (low high : ℕ) (xs : List ℕ) → Run low high xs → low ≤ high
 run_le low high [] r = r
@@ -128,10 +130,6 @@ take_both a b out ra rb x y equal m = record {
       (suc x, run_append 0 k.0 (suc x) out (x ∷ []) k.1 ((k.2.0, omega arith)), k.2.1, run_lower (suc y) (suc x) n rb (omega (arith, equal)) k.3.1);
 }
 
-or_false : (b : Bool) → (b || false) ≡ b
-or_false true = refl
-or_false false = refl
-
 -- where one list is at its end, the rest of the other follows
 pub merged_rows : (a b out ra rb : List ℕ) → Merged a b out ra rb → (y : ℕ) → has y (out ++ (ra ++ rb)) ≡ (has y a || has y b)
 merged_rows a b out ra rb m y = has_append y out (ra ++ rb) ∙ ap (λ v. has y out || v) (has_append y ra rb) ∙ m.rows y
@@ -222,16 +220,12 @@ run_first : (low high : ℕ) (xs : List ℕ) → 0 < length xs → Run low high 
 run_first low high [] h r = absurd (omega (arith, h))
 run_first low high (x ∷ xs) h r = (omega arith, r.1)
 
-append_nil : (xs : List ℕ) → xs ++ [] ≡ xs
-append_nil [] = refl
-append_nil (x ∷ xs) = ap (λ r. x ∷ r) (append_nil xs)
-
 pub follows_none : (a b : List ℕ) → length a ≡ 0 → Follows a b
 follows_none [] b h = λ n r q. q
 follows_none (x ∷ xs) b h = absurd (omega (arith, h))
 
 pub follows_end : (a b : List ℕ) → length b ≡ 0 → Follows a b
-follows_end a [] h = λ n r q. subst (λ v. Run 0 n v) (sym (append_nil a)) r
+follows_end a [] h = λ n r q. subst (λ v. Run 0 n v) (sym (append-nil a)) r
 follows_end a (x ∷ xs) h = absurd (omega (arith, h))
 
 pub follows_last : (a b : List ℕ) → 0 < length a → 0 < length b → get_or a (length a - 1) 0 < get_or b 0 0 → Follows a b
@@ -250,10 +244,6 @@ filter_run_at p low high rest false r = run_lower (low + 1) low high rest (omega
 pub filter_run : (p : ℕ → Bool) (n low high : ℕ) → high ≡ low + n → Run low high (filter p (range_with_len low n))
 filter_run p zero low high e = omega (arith, e)
 filter_run p (suc n) low high e = filter_run_at p low high (filter p (range_with_len (low + 1) n)) (p low) (filter_run p n (low + 1) high (omega (arith, e)))
-
-or_none : (a : Bool) → (a || false) ≡ a
-or_none true = refl
-or_none false = refl
 
 pub same_filter_below : (p q : ℕ → Bool) (n low : ℕ) → ((y : ℕ) → low ≤ y → y < low + n → p y ≡ q y) → filter p (range_with_len low n) ≡ filter q (range_with_len low n)
 same_filter_below p q zero low h = refl
@@ -289,7 +279,7 @@ pub one_more_list : (n : ℕ) (lists : List (List ℕ)) (xs : List ℕ) → Run 
 one_more_list n lists xs r =
     same_filter_below (λ y. has y (in_any n lists) || has y xs) (λ y. list_any (has y) (lists ++ xs ∷ [])) n 0 (λ y l h.
     ap (λ b. b || has y xs) (told n (λ y. list_any (has y) lists) y (omega (arith, h)))
-    ∙ sym (list_any-append (has y) lists (xs ∷ []) ∙ ap (λ b. list_any (has y) lists || b) (or_none (has y xs))))
+    ∙ sym (list_any-append (has y) lists (xs ∷ []) ∙ ap (λ b. list_any (has y) lists || b) (or-false (has y xs))))
 
 pub some : (xs : List ℕ) → length xs ≢ 0 → 0 < length xs
 some [] h = absurd (h refl)
@@ -330,7 +320,7 @@ front a b out ra rb m n r q =
     let own : filter p (range_with_len 0 k.0) ≡ out =
     same_filter_below p (λ y. has y out) k.0 0 (λ y l h. sym (m.rows y)
     ∙ ap (λ v. has y out || (v || has y rb)) (not_below y k.0 n ra (omega (arith, h)) k.2)
-    ∙ ap (λ v. has y out || v) (not_below y k.0 n rb (omega (arith, h)) k.3) ∙ or_none (has y out))
+    ∙ ap (λ v. has y out || v) (not_below y k.0 n rb (omega (arith, h)) k.3) ∙ or-false (has y out))
     ∙ canonical k.0 0 k.0 out (omega arith) k.1 in (
       filter p (range_with_len (0 + k.0) (n - k.0)),
       ap (λ v. filter p (range_with_len 0 v)) all ∙ ap (filter p) (range_split k.0 (n - k.0) 0) ∙ filter-append p (range_with_len 0 k.0) (range_with_len (0 + k.0) (n - k.0))
@@ -341,7 +331,7 @@ pub front_same : (a b out next ra rb : List ℕ) → Merged a b out ra rb → ne
 front_same a b out next ra rb m e n r q = subst (λ v. IsFront v (in_either n a b)) (sym e) (front a b out ra rb m n r q)
 
 front_rest : (a b out ra rb : List ℕ) → ((ra ≡ []) ⊎ (rb ≡ [])) → Merged a b out ra rb → (n : ℕ) → Run 0 n a → Run 0 n b → IsFront (out ++ ra) (in_either n a b)
-front_rest a b out [] rb e m n r q = subst (λ v. IsFront v (in_either n a b)) (sym (append_nil out)) (front a b out [] rb m n r q)
+front_rest a b out [] rb e m n r q = subst (λ v. IsFront v (in_either n a b)) (sym (append-nil out)) (front a b out [] rb m n r q)
 front_rest a b out ra [] e m n r q = ([], sym (merged_done a b out ra [] (inr refl) m n r q) ∙ sym (append_assoc out ra []))
 front_rest a b out (x ∷ ra) (y ∷ rb) (inl e) m n r q = cc
 front_rest a b out (x ∷ ra) (y ∷ rb) (inr e) m n r q = cc

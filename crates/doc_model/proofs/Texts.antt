@@ -2,10 +2,11 @@
 use Rattle.std.proofs.Common.{◌≡◌, ℕ, ◌+◌, ◌<◌, List, [], ◌∷◌, ◌++◌, length, Bool, true, false, ◌&&◌, cond, refl, sym, ◌∙◌, ap, subst, arith, encode_utf8_all}
 use Rattle.std.specs.Prelude.{filter, flat_map}
 use Rattle.std.specs.List.{range_with_len}
-use Rattle.std.specs.Str.{chars, IsUtf8}
+use Rattle.std.specs.Str.{bytes_eq, chars, IsUtf8}
 use Rattle.std.proofs.lemmas.Bool.{and_right}
 use Rattle.std.proofs.lemmas.List.{append-nil}
 use Rattle.std.proofs.lemmas.List.Concat.{flat_map-append}
+use Rattle.std.proofs.lemmas.Slice.Eq.{bytes_eq-Decides}
 use Rattle.std.proofs.lemmas.Str.{chars-append, IsUtf8-append}
 use Rattle.text_base.proofs.Text.{encode-chars}
 use Rattle.doc_model.specs.Document.{Document, row, is_text, below, IsDocument}
@@ -13,6 +14,17 @@ use Rattle.doc_model.specs.Ends.{IsEnd}
 use Rattle.doc_model.specs.StringValue.{texts_below}
 use Rattle.doc_model.proofs.Below.{small, not_up, past_end}
 use Rattle.doc_model.proofs.Filters.{upto_more, upto_none, upto_all}
+
+by_both : (p q : Bool) → (p ≡ true → q ≡ true) → (q ≡ true → p ≡ true) → p ≡ q
+by_both true q f g = sym (f refl)
+by_both false true f g = g refl
+by_both false false f g = refl
+
+-- two texts are the same bytes where they are the same characters
+pub same_chars : (a b : List ℕ) → IsUtf8 a → IsUtf8 b → bytes_eq a b ≡ bytes_eq (chars a) (chars b)
+same_chars a b u v = by_both (bytes_eq a b) (bytes_eq (chars a) (chars b))
+    (λ h. (bytes_eq-Decides (chars a) (chars b)).1 (ap chars ((bytes_eq-Decides a b).0 h)))
+    (λ h. (bytes_eq-Decides a b).1 (sym (encode-chars a u) ∙ ap encode_utf8_all ((bytes_eq-Decides (chars a) (chars b)).0 h) ∙ encode-chars b v))
 
 -- whether the text of the row belongs to it
 abbrev pub is_below : Document → ℕ → ℕ → Bool

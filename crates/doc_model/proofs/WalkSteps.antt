@@ -10,7 +10,7 @@ use Rattle.doc_model.specs.declared.NodeTest.{NodeTest}
 use Rattle.doc_model.specs.Document.{Document, row, rows, below, IsDocument}
 use Rattle.doc_model.specs.Axes.{on_axis, passes}
 use Rattle.doc_model.specs.RowLists.{IsFront}
-use Rattle.doc_model.specs.Walks.{is_kept, is_upward, has_self, chosen, IsWalk, IsNext}
+use Rattle.doc_model.specs.inner.Walks.{is_kept, is_upward, has_self, chosen, IsWalk, IsNext}
 use Rattle.doc_model.proofs.Below.{Small, small, below_cases, below_less, below_parent, below_trans, below_line, not_up}
 use Rattle.doc_model.proofs.Filters.{upto_more, upto_none, upto_all, upto_front, down_more, down_none, down_front}
 

@@ -10,7 +10,7 @@ pub record Kept : Type 0 where
   pub row : Row
   pub end : ℕ
 
--- the root node and the rows behind it
+-- the root node and the rows after it
 abbrev pub rows_of : List Kept → Document
 rows_of rows = no_row ∷ map (λ (r : Kept). r.row) rows
 

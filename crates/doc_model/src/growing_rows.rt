@@ -3,7 +3,7 @@ ghost use Rattle.std.specs.Prelude.{◌≡◌, ◌≢◌, ◌<◌, ◌+◌, ◌^
 ghost use Rattle.doc_model.specs.Document.{IsDocument};
 ghost use Rattle.doc_model.specs.Growing.{fresh, innermost, with_row, with_element, with_attr, with_text, with_comment, with_close, AwaitsAttr, AwaitsText, IsGrowing};
 ghost use Rattle.doc_model.specs.KeptRows.{rows_of, ends_of, growing_of, AreEnds};
-ghost use Rattle.doc_model.specs.Props.{is_growing_prop};
+ghost use Rattle.doc_model.specs.inner.Props.{is_growing_prop};
 
 use crate::Kind;
 use crate::kept_row::{KeptRow, RowText};

@@ -1,6 +1,7 @@
 //! Lists of rows in document order.
 ghost use Rattle.std.specs.Prelude.{◌≡◌, ◌<◌, ◌++◌, ◌∷◌, [], ℕ, List, length, IsTrue, IfOk, take, OnOk, OnErr, drop};
 ghost use Rattle.doc_model.specs.RowLists as spec;
+ghost use Rattle.doc_model.specs.inner.Merging.{taken, Follows};
 
 use std::alloc::Global;
 use text_base::{NoMemory, Seq};
@@ -16,9 +17,9 @@ struct Taken {
 fn smaller(a: &[u32], b: &[u32], i: usize, j: usize) -> Taken
     requires left { i < length a.now }
     requires right { j < length b.now }
-    ensures row { result.row ≡ (spec.taken a.now b.now i j).row }
-    ensures i { result.i ≡ (spec.taken a.now b.now i j).i }
-    ensures j { result.j ≡ (spec.taken a.now b.now i j).j }
+    ensures row { result.row ≡ (taken a.now b.now i j).row }
+    ensures i { result.i ≡ (taken a.now b.now i j).i }
+    ensures j { result.j ≡ (taken a.now b.now i j).j }
 {
     let x = a[i];
     let y = b[j];
@@ -62,9 +63,9 @@ pub fn merge_into(a: &[u32], b: &[u32], out: &mut Vec<u32>) -> Result<(), NoMemo
     Ok(())
 }
 
-/// Whether the second list may stand behind the first.
+/// Whether the second list may stand after the first.
 fn follows(a: &[u32], b: &[u32]) -> bool
-    ensures { IsTrue result → spec.Follows a.now b.now }
+    ensures { IsTrue result → Follows a.now b.now }
 {
     if a.len() == 0 {
         return true;

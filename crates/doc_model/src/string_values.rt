@@ -5,18 +5,19 @@ ghost use Rattle.doc_model.specs.Document.{row, is_text};
 ghost use Rattle.doc_model.specs.StringValue as spec;
 
 use crate::Kind;
+use crate::row_tests::is_text;
 use crate::tree::Tree;
 use std::alloc::Global;
 use text_base::NoMemory;
 
-/// The text of the row, if it is a text, behind what is there.
+/// The text of the row, if it is a text, after what is there.
 fn push_text<T: Tree>(tree: &T, y: u32, text: &mut String) -> Result<(), NoMemory>
     requires row { y < length (T.document tree.now) }
     requires utf8 { IsUtf8 (string_bytes text.old) }
     ensures chars { OnOk result (chars (string_bytes text.new) ≡ chars (string_bytes text.old) ++ (if is_text (T.document tree.now) y then (row (T.document tree.now) y).text else [])) }
     ensures utf8 { OnOk result (IsUtf8 (string_bytes text.new)) }
 {
-    if matches!(tree.kind(y), Kind::Text) {
+    if is_text(tree, y) {
         text.push_str(tree.text(y))?;
     }
     Ok(())

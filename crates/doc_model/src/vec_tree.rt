@@ -4,7 +4,7 @@ ghost use Rattle.doc_model.specs.Document.{IsDocument};
 ghost use Rattle.doc_model.specs.KeptRows.{Kept, rows_of, ends_of, AreEnds};
 ghost use Rattle.std.proofs.Common.{arith};
 ghost use Rattle.std.proofs.lemmas.List.{length-map};
-ghost use Rattle.doc_model.specs.Props.{is_document_prop};
+ghost use Rattle.doc_model.specs.inner.Props.{is_document_prop};
 
 use crate::kept_row::KeptRow;
 use crate::tree::Tree;

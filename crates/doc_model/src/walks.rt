@@ -4,11 +4,12 @@ ghost use Rattle.doc_model.specs.Document.{row, rows, is_attribute, is_element, 
 ghost use Rattle.doc_model.specs.Axes.{on_axis, passes, is_principal, is_comment_kind};
 ghost use Rattle.doc_model.specs.Axes as spec;
 ghost use Rattle.doc_model.specs.RowLists.{IsFront};
-ghost use Rattle.doc_model.specs.Walks.{is_kept, chosen, IsWalk, IsNext, EndsAttributes};
+ghost use Rattle.doc_model.specs.inner.Walks.{is_kept, chosen, IsWalk, IsNext, EndsAttributes};
 ghost use Rattle.doc_model.specs.Ends.{IsEnd};
 ghost use Rattle.doc_model.specs.declared.Axis.TheVariants as axis;
-ghost use Rattle.doc_model.specs.Walks as walks;
+ghost use Rattle.doc_model.specs.inner.Walks as walks;
 
+use crate::row_tests::{is_attribute, is_below, is_element, is_text};
 use crate::tree::Tree;
 use crate::{Axis, Kind, NodeTest};
 use text_base::NoMemory;
@@ -38,20 +39,6 @@ pub fn is_upward(axis: Axis) -> bool
     matches!(axis, Axis::Ancestor | Axis::AncestorOrSelf)
 }
 
-fn is_element<T: Tree>(tree: &T, y: u32) -> bool
-    requires { y < length (T.document tree.now) }
-    ensures { result ≡ is_element (T.document tree.now) y }
-{
-    matches!(tree.kind(y), Kind::Element)
-}
-
-fn is_attribute<T: Tree>(tree: &T, y: u32) -> bool
-    requires { y < length (T.document tree.now) }
-    ensures { result ≡ is_attribute (T.document tree.now) y }
-{
-    matches!(tree.kind(y), Kind::Attribute)
-}
-
 /// Whether `*` and names look at the row.
 fn is_principal<T: Tree>(tree: &T, axis: Axis, y: u32) -> bool
     requires { y < length (T.document tree.now) }
@@ -72,7 +59,7 @@ fn passes<T: Tree>(tree: &T, axis: Axis, test: &NodeTest, y: u32) -> bool
         NodeTest::AnyName => is_principal(tree, axis, y),
         NodeTest::Name(name) => is_principal(tree, axis, y) && tree.name(y) == name.as_str(),
         NodeTest::Node => true,
-        NodeTest::Text => matches!(tree.kind(y), Kind::Text),
+        NodeTest::Text => is_text(tree, y),
         NodeTest::Comment => matches!(tree.kind(y), Kind::Comment),
         NodeTest::Instruction => false,
     }
@@ -90,21 +77,12 @@ fn is_kept<T: Tree>(tree: &T, x: u32, axis: Axis, y: u32) -> bool
         Axis::FollowingSibling | Axis::PrecedingSibling => {
             !is_attribute(tree, y) && tree.parent(y) == tree.parent(x)
         }
-        Axis::Preceding => !is_attribute(tree, y) && !is_above(tree, y, x),
+        Axis::Preceding => !is_attribute(tree, y) && !is_below(tree, y, x),
         Axis::DescendantOrSelf => y == x || !is_attribute(tree, y),
         Axis::Descendant | Axis::Following => !is_attribute(tree, y),
         Axis::Namespace => false,
         Axis::Parent | Axis::OwnSelf | Axis::Ancestor | Axis::AncestorOrSelf => true,
     }
-}
-
-/// Whether `x` is below `y`.
-fn is_above<T: Tree>(tree: &T, y: u32, x: u32) -> bool
-    requires row { y < length (T.document tree.now) }
-    requires other { x < length (T.document tree.now) }
-    ensures { result ≡ below (T.document tree.now) y x }
-{
-    y < x && x < tree.end(y)
 }
 
 /// The first row after `x` that is no attribute, or the number of rows.

@@ -7,7 +7,7 @@ use Rattle.doc_model.specs.declared.Kind.TheVariants.{Root, Element, Attribute, 
 use Rattle.doc_model.specs.Axes.{on_axis}
 use Rattle.doc_model.specs.Document.{Document, row}
 use Rattle.doc_model.specs.Ends.{IsEnd}
-use Rattle.doc_model.specs.Walks.{EndsAttributes}
+use Rattle.doc_model.specs.inner.Walks.{EndsAttributes}
 use Rattle.markup_out.specs.Escapes.{escaped_value}
 use Rattle.markup_out.specs.Markup.{start_tag, newline, end_tag, text_markup, comment_markup, styled}
 use Rattle.markup_out.specs.Names.{is_void}

@@ -12,7 +12,7 @@ use Rattle.doc_model.specs.declared.NodeTest.TheVariants as test
 use Rattle.doc_model.specs.Document.{Document, row, is_element_kind, is_attribute, is_attribute_kind, below, IsDocument}
 use Rattle.doc_model.specs.Axes.{axis_list}
 use Rattle.doc_model.specs.Ends.{IsEnd}
-use Rattle.doc_model.specs.Walks.{chosen}
+use Rattle.doc_model.specs.inner.Walks.{chosen}
 use Rattle.doc_model.proofs.Below.{small, not_up, past_end}
 use Rattle.doc_model.proofs.Runs.{same_filter}
 use Rattle.doc_model.proofs.Filters.{none_in, from_to, upto, upto_none, single}

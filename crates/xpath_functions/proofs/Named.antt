@@ -9,7 +9,7 @@ use Rattle.doc_model.specs.declared.Axis.TheVariants as axis
 use Rattle.doc_model.specs.declared.Kind.{Kind}
 use Rattle.doc_model.specs.declared.Kind.TheVariants.{Root, Element, Attribute, Text, Comment}
 use Rattle.doc_model.specs.Document.{Document, row, rows, is_attribute, is_attribute_kind, is_parent, IsDocument}
-use Rattle.doc_model.specs.Walks.{EndsAttributes}
+use Rattle.doc_model.specs.inner.Walks.{EndsAttributes}
 use Rattle.doc_model.proofs.AxisWalks.{attribute_walk}
 use Rattle.doc_model.proofs.Below.{small}
 use Rattle.doc_model.proofs.Filters.{upto_more, upto_none, upto_all}

@@ -1,15 +1,13 @@
 use Rattle.std.proofs.Common.{◌≡◌, ◌++◌, [], true, cond, string_bytes, ap, sym, ◌∙◌}
 use Rattle.std.specs.Str.{chars}
-use Rattle.std.proofs.lemmas.Bool.{both_ways}
-use Rattle.doc_model.specs.Document.{row, is_text, is_text_kind}
+use Rattle.doc_model.specs.Document.{row, is_text}
 use Rattle.doc_model.proofs.Texts.{pushed_chars, pushed_utf8}
 use Rattle.doc_model.proofs.string_values.push_text.Goals as goal
-use Rattle.doc_model.proofs.string_values.push_text.Goals.{in-Text, in_default}
 
 pub returns-in_ok-push_str-clause-chars : goal.returns-in_ok-push_str-clause-chars
 returns-in_ok-push_str-clause-chars g c =
     let doc = g.T.Tree.document c.args.tree.now in
-    let kind : is_text doc c.args.y ≡ true = (elim c.match-matches.branch [ in-Text w ↦ ap is_text_kind (sym c.kind.ensures ∙ w.in-Text.is) | in_default w ↦ absurd (both_ways _ w.matches-is c.if-matches.true) ]) in
+    let kind : is_text doc c.args.y ≡ true = sym c.is_text.ensures ∙ c.if-is_text.true in
     pushed_chars (string_bytes c.args.text.now) (string_bytes c.push_str.new.self) c.text.result.now (row doc c.args.y).text c.requires.utf8 c.in_ok-push_str.ensures.bytes c.text.ensures.chars
     ∙ ap (λ b. chars (string_bytes c.args.text.now) ++ cond b (row doc c.args.y).text []) (sym kind)
 

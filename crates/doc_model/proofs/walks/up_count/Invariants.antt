@@ -1,7 +1,7 @@
 use Rattle.std.proofs.Common.{◌≡◌, ◌≤◌, ◌-◌, ◌+◌, length}
 use Rattle.std.specs.Prelude.{filter}
 use Rattle.std.specs.List.{range_with_len}
-use Rattle.doc_model.specs.Walks.{chosen}
+use Rattle.doc_model.specs.inner.Walks.{chosen}
 use Rattle.doc_model.proofs.WalkSteps.{IsOver}
 use Rattle.doc_model.proofs.walks.up_count.Given as goal
 

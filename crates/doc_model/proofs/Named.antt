@@ -1,0 +1,101 @@
+-- The attribute of a row that has a name, and its value.
+use Rattle.std.proofs.Common.{◌≡◌, refl, sym, ◌∙◌, ap, ℕ, ◌+◌, ◌<◌, ◌≤◌, Bool, true, false, ◌&&◌, ◌||◌, cond, List, [], ◌∷◌, ◌++◌, length, arith, inl, inr}
+use Rattle.std.specs.Prelude.{filter}
+use Rattle.std.specs.List.{list_any, range_with_len}
+use Rattle.std.proofs.lemmas.Bool.{and_parts, cases_lt, eqb-true, ltb-true, false_from_ne_true}
+use Rattle.std.proofs.Math.Bool.{or-false}
+use Rattle.std.proofs.lemmas.Slice.Eq.{bytes_eq-Decides}
+use Rattle.doc_model.specs.Axes.{on_axis}
+use Rattle.doc_model.specs.declared.Axis.TheVariants as axis
+use Rattle.doc_model.specs.declared.Kind.{Kind}
+use Rattle.doc_model.specs.declared.Kind.TheVariants.{Root, Element, Attribute, Text, Comment}
+use Rattle.doc_model.specs.Document.{Document, row, rows, is_attribute, is_attribute_kind, is_parent, IsDocument}
+use Rattle.doc_model.specs.inner.Walks.{EndsAttributes}
+use Rattle.doc_model.proofs.AxisWalks.{attribute_walk}
+use Rattle.doc_model.proofs.Below.{small}
+use Rattle.doc_model.proofs.Filters.{upto_more, upto_none, upto_all}
+use Rattle.doc_model.specs.Attributes.{is_attribute_of, has_value}
+
+attribute_kind : (k : Kind) → is_attribute_kind k ≡ true → k ≡ Attribute
+attribute_kind Attribute h = refl
+attribute_kind Root h = cc
+attribute_kind Element h = cc
+attribute_kind Text h = cc
+attribute_kind Comment h = cc
+
+-- one row passes alone
+one : (p : ℕ → Bool) (n z : ℕ) → z < n → p z ≡ true → ((k : ℕ) → k < z → p k ≡ false) → ((k : ℕ) → z < k → k < n → p k ≡ false) → filter p (range_with_len 0 n) ≡ z ∷ []
+one p n z l h before after =
+    sym (upto_all p (z + 1) n (omega arith) (λ k i j. after k (omega (arith, i)) j))
+    ∙ upto_more p z (z + 1) (omega arith) (λ k i j. absurd (omega (arith, i, j)))
+    ∙ ap (λ b. filter p (range_with_len 0 z) ++ cond b (z ∷ []) []) h
+    ∙ ap (λ v. v ++ z ∷ []) (upto_none p z before)
+
+-- what is known of the attribute
+named_attribute : (doc : Document) (name : List ℕ) (y z : ℕ) → is_attribute_of doc y name z ≡ true → ((row doc z).kind ≡ Attribute) × (((row doc z).parent ≡ y) × ((row doc z).name ≡ name))
+named_attribute doc name y z h =
+    let two = and_parts _ _ h in
+    let more = and_parts _ _ two.1 in
+    let parent = and_parts _ _ more.0 in
+    (attribute_kind (row doc z).kind two.0, (eqb-true _ _ parent.1, (bytes_eq-Decides (row doc z).name name).0 more.1))
+
+is_none : (doc : Document) (name : List ℕ) (y k : ℕ) → ((row doc k).kind ≡ Attribute → 0 < k → (row doc k).parent ≡ y → (row doc k).name ≡ name → ⊥) → is_attribute_of doc y name k ≡ false
+is_none doc name y k never = false_from_ne_true _ (λ e.
+    let two = and_parts _ _ e in
+    let more = and_parts _ _ two.1 in
+    let parent = and_parts _ _ more.0 in
+    never (attribute_kind (row doc k).kind two.0) (ltb-true 0 k parent.0) (eqb-true _ _ parent.1) ((bytes_eq-Decides (row doc k).name name).0 more.1))
+
+both_true : (a b : Bool) → a ≡ true → b ≡ true → (a && b) ≡ true
+both_true a b h k = ap (λ v. v && b) h ∙ k
+
+-- no attribute stands before its row
+none_before : (doc : Document) (name : List ℕ) (y k : ℕ) → IsDocument doc → k ≤ y → is_attribute_of doc y name k ≡ false
+none_before doc name y k d l = is_none doc name y k (λ a some p n. let up : (row doc k).parent < k = small doc d k some in omega arith)
+
+-- each row before one is before the row itself, or after it
+none_ahead : (doc : Document) (name : List ℕ) (y e : ℕ) → IsDocument doc → ((k : ℕ) → y < k → k < e → is_attribute_of doc y name k ≡ false) → (k : ℕ) → k < e → is_attribute_of doc y name k ≡ false
+none_ahead doc name y e d between k l = elim (cases_lt y k) [ inl h ↦ between k h l | inr h ↦ none_before doc name y k d h ]
+
+pub found : (doc : Document) (name : List ℕ) (y z : ℕ) → IsDocument doc → z < length doc → is_attribute_of doc y name z ≡ true → ((k : ℕ) → y < k → k < z → is_attribute_of doc y name k ≡ false)
+    → filter (is_attribute_of doc y name) (rows doc) ≡ z ∷ []
+found doc name y z d l e before = one (is_attribute_of doc y name) (length doc) z l e (none_ahead doc name y z d before) none_after
+  where
+    none_after : (k : ℕ) → z < k → k < length doc → is_attribute_of doc y name k ≡ false
+    none_after k i j = is_none doc name y k (λ a some p n.
+        let first = named_attribute doc name y z e in
+        (d.rest k some j).distinct a z i first.0 (first.1.0 ∙ sym p) (first.1.1 ∙ sym n))
+
+pub none : (doc : Document) (name : List ℕ) (y e : ℕ) → IsDocument doc → EndsAttributes doc y e → ((k : ℕ) → y < k → k < e → is_attribute_of doc y name k ≡ false)
+    → filter (is_attribute_of doc y name) (rows doc) ≡ []
+none doc name y e d ends before = upto_none (is_attribute_of doc y name) (length doc) all
+  where
+    all : (k : ℕ) → k < length doc → is_attribute_of doc y name k ≡ false
+    all k l = elim (cases_lt k e) [
+      | inl h ↦ none_ahead doc name y e d before k h
+      | inr h ↦ false_from_ne_true _ (λ i.
+          let two = and_parts _ _ i in
+          let on : on_axis doc axis.Attribute y k ≡ true = both_true (is_attribute doc k) (is_parent doc y k) two.0 (and_parts _ _ two.1).0 in
+          let off : on_axis doc axis.Attribute y k ≡ false = (attribute_walk doc y e d ends).after k h l in
+          cc)
+    ]
+
+-- the attributes of y with the name
+abbrev pub named : Document → List ℕ → ℕ → List ℕ
+named doc n y = filter (is_attribute_of doc y n) (rows doc)
+
+any_filter : (p q : ℕ → Bool) (xs : List ℕ) → list_any q (filter p xs) ≡ list_any (λ x. p x && q x) xs
+any_filter p q [] = refl
+any_filter p q (x ∷ xs) =
+    elim (p x) as (λ b. list_any q (cond b (x ∷ filter p xs) (filter p xs)) ≡ ((b && q x) || list_any (λ y. p y && q y) xs))
+    [ true ↦ ap (λ b. q x || b) (any_filter p q xs) | false ↦ any_filter p q xs ]
+
+module _ (doc : Document) (n : List ℕ) (y : ℕ) where
+  pub value_found : (test : List ℕ → Bool) → has_value doc y n test ≡ list_any (λ r. test (row doc r).text) (named doc n y)
+  value_found test = sym (any_filter (is_attribute_of doc y n) (λ r. test (row doc r).text) (rows doc))
+
+  pub value_there : (test : List ℕ → Bool) (z : ℕ) → named doc n y ≡ z ∷ [] → test (row doc z).text ≡ has_value doc y n test
+  value_there test z e = sym (value_found test ∙ ap (list_any (λ r. test (row doc r).text)) e ∙ or-false (test (row doc z).text))
+
+  pub no_value : (test : List ℕ → Bool) → named doc n y ≡ [] → false ≡ has_value doc y n test
+  no_value test e = sym (value_found test ∙ ap (list_any (λ r. test (row doc r).text)) e)

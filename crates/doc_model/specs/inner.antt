@@ -1,0 +1,5 @@
+-- What private functions and proofs say. No contract of a public call cites it.
+pub mod LastChild
+pub mod Merging
+pub mod Props
+pub mod Walks
