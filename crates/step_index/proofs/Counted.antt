@@ -123,7 +123,7 @@ not_element Attribute h = refl
 not_element Text h = refl
 not_element Comment h = refl
 
--- ---- what stands behind an element
+-- ---- what stands after an element
 
 pub children_grow : (doc : Document) (e : ℕ → Bool) (p b n : ℕ) → b ≤ n → children_before doc e p b ≤ children_before doc e p n
 children_grow doc e p b n l =

@@ -10,7 +10,8 @@ use Rattle.doc_model.specs.declared.Kind.TheVariants.{Element, Attribute}
 use Rattle.doc_model.specs.Document.{Document, row, is_attribute, is_attribute_kind, is_element_kind}
 use Rattle.doc_model.proofs.Filters.{upto_more}
 use Rattle.doc_model.proofs.Runs.{range_split}
-use Rattle.step_index.specs.Named.{is_named, named_before, gives_id}
+use Rattle.step_index.specs.Named.{is_named, named_before}
+use Rattle.step_index.specs.inner.Tables.{gives_id}
 use Rattle.step_index.proofs.Texts.{key_test, same_literal}
 
 pub on_ok : {A E P Q : Type 0} (r : Result A E) → (P → Q) → OnOk r P → OnOk r Q

@@ -1,14 +1,16 @@
 -- The first element whose attribute `id` has a value.
-use Rattle.std.proofs.Common.{◌≡◌, ℕ, zero, suc, ◌+◌, ◌-◌, ◌<◌, ◌≤◌, length, Bool, true, false, ◌&&◌, cond, eqb, List, refl, sym, ◌∙◌, ap, arith, inl, inr, ◌⊎◌, Option, Some, None}
+use Rattle.std.proofs.Common.{◌≡◌, ℕ, zero, suc, ◌+◌, ◌-◌, ◌<◌, ◌≤◌, length, Bool, true, false, ◌&&◌, cond, eqb, ltb, codes, List, refl, sym, ◌∙◌, ap, arith, inl, inr, ◌⊎◌, Option, Some, None}
 use Rattle.std.specs.List.{range_with_len, find, list_any}
+use Rattle.std.specs.Str.{bytes_eq}
 use Rattle.std.specs.Option.{option_map}
-use Rattle.std.proofs.lemmas.Bool.{and_parts, and_from, or_cases, or_left, or_right, cases_lt, cases_eq, eqb-true, eq-eqb, false_from_ne_true, both_ways}
+use Rattle.std.proofs.lemmas.Bool.{and_parts, and_from, lt-ltb, or_cases, or_left, or_right, cases_lt, cases_eq, eqb-true, eq-eqb, false_from_ne_true, both_ways}
 use Rattle.doc_model.specs.declared.Kind.{Kind}
 use Rattle.doc_model.specs.declared.Kind.TheVariants.{Element, Attribute}
-use Rattle.doc_model.specs.Document.{Document, row, rows, is_element, is_element_kind, is_attribute, is_attribute_kind, IsDocument}
+use Rattle.doc_model.specs.Document.{Document, row, rows, is_element, is_element_kind, is_attribute, is_attribute_kind, is_parent, IsDocument}
+use Rattle.doc_model.specs.Attributes.{is_attribute_of, has_id}
 use Rattle.doc_model.proofs.Below.{small}
 use Rattle.doc_model.proofs.AxisWalks.{attribute_kind}
-use Rattle.step_index.specs.Named.{gives_id, has_id}
+use Rattle.step_index.specs.inner.Tables.{gives_id}
 
 -- ---- the first number of a range that passes
 
@@ -52,7 +54,7 @@ any_out p zero low h = cc
 any_out p (suc n) low h =
     elim (or_cases _ _ h) [ inl e ↦ (low, (omega arith, omega arith, e)) | inr e ↦ (let r = any_out p n (low + 1) e in (r.0, (omega (arith, r.1.0), omega (arith, r.1.1), r.1.2))) ]
 
--- ---- attributes stand behind their element
+-- ---- attributes stand after their element
 
 -- what stands between an attribute's element and the attribute is an attribute of it
 between : (k : ℕ) (doc : Document) (z : ℕ) → IsDocument doc → z < length doc → is_attribute doc z ≡ true → (row doc z).parent < z - k
@@ -84,18 +86,24 @@ some doc (suc z) d a = omega arith
 -- the parent of an attribute `id` has it
 has_it : (doc : Document) (w : List ℕ) (a : ℕ) → IsDocument doc → a < length doc → gives_id doc w a ≡ true → has_id doc w (row doc a).parent ≡ true
 has_it doc w a d l h =
-    let att = (and_parts _ _ h).0 in
-    let owner = ((d.rest a (some doc a d att) l).attribute (attribute_kind _ att)).1 in
+    let att = and_parts _ _ h in
+    let value = and_parts _ _ att.1 in
+    let first : 0 < a = some doc a d att.0 in
+    let owner = ((d.rest a first l).attribute (attribute_kind _ att.0)).1 in
+    let own : is_parent doc (row doc a).parent a ≡ true = and_from _ _ (lt-ltb 0 a first) (eq-eqb _ _ refl) in
     and_from _ _ (ap is_element_kind owner)
-    (any_in (λ z. gives_id doc w z && eqb (row doc z).parent (row doc a).parent) (length doc) 0 a (omega arith) (omega arith) (and_from _ _ h (eq-eqb _ _ refl)))
+    (any_in (λ z. is_attribute_of doc (row doc a).parent (codes "id") z && bytes_eq (row doc z).text w) (length doc) 0 a (omega arith) (omega arith) (and_from _ _ (and_from _ _ att.0 (and_from _ _ own value.0)) value.1))
 
 -- a row that has an attribute `id` of this value is the parent of one
 owner_of : (doc : Document) (w : List ℕ) (y : ℕ) → has_id doc w y ≡ true → (z : ℕ) × ((z < length doc) × (gives_id doc w z ≡ true) × ((row doc z).parent ≡ y))
 owner_of doc w y h =
-    let p : ℕ → Bool = λ z. gives_id doc w z && eqb (row doc z).parent y in
+    let p : ℕ → Bool = λ z. is_attribute_of doc y (codes "id") z && bytes_eq (row doc z).text w in
     let r = any_out p (length doc) 0 (and_parts (is_element doc y) (list_any p (rows doc)) h).1 in
-    let two = and_parts (gives_id doc w r.0) (eqb (row doc r.0).parent y) r.1.2 in
-    (r.0, (omega (arith, r.1.1), two.0, eqb-true (row doc r.0).parent y two.1))
+    let two = and_parts (is_attribute_of doc y (codes "id") r.0) (bytes_eq (row doc r.0).text w) r.1.2 in
+    let att = and_parts (is_attribute doc r.0) (is_parent doc y r.0 && bytes_eq (row doc r.0).name (codes "id")) two.0 in
+    let own = and_parts (is_parent doc y r.0) (bytes_eq (row doc r.0).name (codes "id")) att.1 in
+    let above = and_parts (ltb 0 r.0) (eqb (row doc r.0).parent y) own.0 in
+    (r.0, (omega (arith, r.1.1), and_from _ _ att.0 (and_from _ _ own.1 two.1), eqb-true (row doc r.0).parent y above.1))
 
 first_from : (doc : Document) (w : List ℕ) (r : Option ℕ) → IsDocument doc → Found (gives_id doc w) 0 (length doc) r → option_map (λ z. (row doc z).parent) r ≡ find (has_id doc w) (rows doc)
 first_from doc w r d (none never) =

@@ -14,7 +14,7 @@ use Rattle.doc_model.specs.Axes.{axis_list}
 use Rattle.doc_model.specs.Ends.{IsEnd}
 use Rattle.doc_model.specs.inner.Walks.{chosen}
 use Rattle.doc_model.proofs.Below.{small, not_up, past_end}
-use Rattle.doc_model.proofs.Runs.{same_filter}
+use Rattle.doc_model.proofs.Runs.{same_filter, same_filter_below}
 use Rattle.doc_model.proofs.Filters.{none_in, from_to, upto, upto_none, single}
 use Rattle.step_index.specs.Named.{is_named, named_before, named_below, GrowsByFront}
 
@@ -89,12 +89,6 @@ before_past p b n k y h e l =
 
 -- ---- below a row
 
-pub same_within : (p q : ℕ → Bool) (n low : ℕ) → ((y : ℕ) → low ≤ y → y < low + n → p y ≡ q y) → filter p (range_with_len low n) ≡ filter q (range_with_len low n)
-same_within p q zero low h = refl
-same_within p q (suc n) low h =
-    ap (λ b. cond b (low ∷ filter p (range_with_len (low + 1) n)) (filter p (range_with_len (low + 1) n))) (h low (omega arith) (omega arith))
-    ∙ ap (λ r. cond (q low) (low ∷ r) r) (same_within p q n (low + 1) (λ y i k. h y (omega (arith, i)) (omega (arith, k))))
-
 and_true : (a b : Bool) → b ≡ true → a ≡ (a && b)
 and_true true b h = sym h
 and_true false b h = refl
@@ -109,7 +103,7 @@ below_by_end doc x e name d end =
     ∙ from_to q (x + 1) e n (omega (arith, end.after)) end.within
     ∙ ap (λ v. filter q (range_with_len (x + 1) (e - (x + 1))) ++ v) (none_in q (n - e) e (λ z l k. and_right _ _ (past_end doc x e z d end l (omega (arith, k, end.within)))))
     ∙ append-nil _
-    ∙ sym (same_within (is_named doc name) q (e - (x + 1)) (x + 1) (λ y l k. and_true _ _ (end.inside y (omega (arith, l)) (omega (arith, k, end.after)))))
+    ∙ sym (same_filter_below (is_named doc name) q (e - (x + 1)) (x + 1) (λ y l k. and_true _ _ (end.inside y (omega (arith, l)) (omega (arith, k, end.after)))))
 
 pub before_end : (doc : Document) (x e : ℕ) (name : List ℕ) → IsDocument doc → IsEnd doc x e → named_before doc name e ≡ named_before doc name (x + 1) ++ named_below doc x name
 before_end doc x e name d end = upto (is_named doc name) (x + 1) e (omega (arith, end.after)) ∙ ap (λ v. named_before doc name (x + 1) ++ v) (sym (below_by_end doc x e name d end))
@@ -204,5 +198,5 @@ with_self doc x name d l =
     ∙ ap (λ v. v ++ filter c (range_with_len (x + 1) (n - (x + 1)))) (single c x (x + 1) (omega arith) (λ z a b. absurd (omega (arith, a, b)))
     ∙ ap (λ b. cond (b && is_named doc name x) (x ∷ []) []) (or_left (eqb x x) (not (is_attribute doc x) && below doc x x) (eq-eqb x x refl)))
     ∙ ap (λ v. cond (is_named doc name x) (x ∷ []) [] ++ v)
-    (same_within c q (n - (x + 1)) (x + 1) (λ y a b. ap (λ v. (v || (not (is_attribute doc y) && below doc x y)) && is_named doc name y) (ne_eqb y x (λ s. omega (arith, a, s))) ∙ kinds (row doc y).kind (below doc x y) _)
+    (same_filter_below c q (n - (x + 1)) (x + 1) (λ y a b. ap (λ v. (v || (not (is_attribute doc y) && below doc x y)) && is_named doc name y) (ne_eqb y x (λ s. omega (arith, a, s))) ∙ kinds (row doc y).kind (below doc x y) _)
     ∙ sym (upto q (x + 1) n (omega arith) ∙ ap (λ v. v ++ filter q (range_with_len (x + 1) (n - (x + 1)))) (upto_none q (x + 1) (λ z k. and_right _ _ (not_up doc x z (small doc d) (omega (arith, k)))))))

@@ -16,7 +16,7 @@ use Rattle.doc_model.specs.Document.{Document, row, rows, is_element, is_element
 use Rattle.doc_model.specs.Axes.{axis_list, are_siblings, passes}
 use Rattle.doc_model.proofs.Filters.{none_in, upto, upto_none}
 use Rattle.step_index.proofs.Counted.{one_child, some_element}
-use Rattle.step_index.proofs.Places.{same_within}
+use Rattle.doc_model.proofs.Runs.{same_filter_below}
 use Rattle.step_index.specs.Named.{is_named}
 use Rattle.step_index.specs.Siblings.{children_before}
 
@@ -63,9 +63,9 @@ preceding doc x a t d l h s only =
     upto c x (length doc) (omega arith)
     ∙ ap (λ v. filter c (range_with_len 0 x) ++ v) (none_in c (length doc - x) x (λ z m k. and_left _ _ (and_right _ _ (le-ltb z x m))))
     ∙ append-nil _
-    ∙ same_within c q x 0 (λ z m k. sibling doc x z e (nat_lt z x) (some_element doc x d h) h (only z) (lt-ltb z x (omega (arith, k)))))
+    ∙ same_filter_below c q x 0 (λ z m k. sibling doc x z e (nat_lt z x) (some_element doc x d h) h (only z) (lt-ltb z x (omega (arith, k)))))
 
--- those behind it
+-- those after it
 pub following : (doc : Document) (x : ℕ) (a : Axis) (t : NodeTest) → IsDocument doc → x < length doc → is_element doc x ≡ true → a ≡ axis.FollowingSibling
     → ((z : ℕ) → passes doc axis.FollowingSibling t z ≡ true → is_element doc z ≡ true) → passes doc axis.FollowingSibling t x ≡ true
     → children_before doc (passes doc axis.FollowingSibling t) (row doc x).parent (length doc)
@@ -79,7 +79,7 @@ following doc x a t d l h s only own =
     let found : filter c (rows doc) ≡ filter q (range_with_len (x + 1) (n - (x + 1))) =
     upto c (x + 1) n (omega arith)
     ∙ ap (λ v. v ++ filter c (range_with_len (x + 1) (n - (x + 1)))) (upto_none c (x + 1) (λ z k. and_left _ _ (and_right _ _ (le-ltb x z (omega (arith, k))))))
-    ∙ same_within c q (n - (x + 1)) (x + 1) (λ z m k. sibling doc x z e (nat_lt x z) some h (only z) (lt-ltb x z (omega (arith, m)))) in
+    ∙ same_filter_below c q (n - (x + 1)) (x + 1) (λ z m k. sibling doc x z e (nat_lt x z) some h (only z) (lt-ltb x z (omega (arith, m)))) in
     let split : children_before doc e (row doc x).parent n ≡ children_before doc e (row doc x).parent (x + 1) + length (filter q (range_with_len (x + 1) (n - (x + 1)))) =
     ap (λ (v : List ℕ). length v) (upto q (x + 1) n (omega arith)) ∙ length-append (filter q (range_with_len 0 (x + 1))) (filter q (range_with_len (x + 1) (n - (x + 1)))) in
     let one : children_before doc e (row doc x).parent (x + 1) ≡ children_before doc e (row doc x).parent x + 1 = one_child doc e (row doc x).parent x some own refl in

@@ -10,10 +10,11 @@ use Rattle.std.proofs.lemmas.Slice.Eq.{bytes_eq-Decides}
 use Rattle.doc_model.specs.Document.{Document, row, rows, is_element, is_parent, IsDocument}
 use Rattle.step_index.specs.Named.{is_named, named_before}
 use Rattle.step_index.specs.Siblings.{children_before}
-use Rattle.step_index.specs.Alike.{first_named, is_led, HasAlike}
+use Rattle.step_index.specs.inner.Alike.{first_named, is_led, HasAlike}
 use Rattle.step_index.proofs.Counted.{one_child, other_child, no_child, some_element, one_and_more}
 use Rattle.step_index.proofs.Firsts.{Found, none, first, found}
-use Rattle.step_index.proofs.Places.{same_within, filter_le}
+use Rattle.step_index.proofs.Places.{filter_le}
+use Rattle.doc_model.proofs.Runs.{same_filter_below}
 
 -- ---- the first element of a name
 
@@ -65,7 +66,7 @@ same_lead doc y z l k e = by_both _ _
 pub led_as_named : (doc : Document) (y p b : ℕ) → y < length doc → b ≤ length doc → is_element doc y ≡ true
     → children_before doc (is_led doc (first_named doc (row doc y).name)) p b ≡ children_before doc (is_named doc (row doc y).name) p b
 led_as_named doc y p b l k e =
-    ap (λ (v : List ℕ). length v) (same_within (λ z. is_led doc (first_named doc (row doc y).name) z && is_parent doc p z) (λ z. is_named doc (row doc y).name z && is_parent doc p z) b 0
+    ap (λ (v : List ℕ). length v) (same_filter_below (λ z. is_led doc (first_named doc (row doc y).name) z && is_parent doc p z) (λ z. is_named doc (row doc y).name z && is_parent doc p z) b 0
     (λ z m n. ap (λ v. v && is_parent doc p z) (same_lead doc y z l (omega (arith, n, k)) e)))
 
 -- ---- the table

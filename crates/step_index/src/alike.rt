@@ -1,8 +1,8 @@
 //! Elements among their siblings of the same name.
 ghost use Rattle.std.specs.Prelude.{◌≡◌, ◌<◌, ◌+◌, ◌^◌, ◌++◌, ◌∷◌, ◌&&◌, ◌==◌, [], ℕ, if◌then◌else◌, length, slice_index, IfOk, OnOk};
-ghost use Rattle.step_index.specs.Alike.{tally, HasAlike, first_named};
+ghost use Rattle.step_index.specs.inner.Alike.{tally, HasAlike, first_named};
 ghost use Rattle.doc_model.specs.Document.{row};
-ghost use Rattle.step_index.specs.Tables.{HasNames};
+ghost use Rattle.step_index.specs.inner.Tables.{HasNames};
 
 use crate::names::Names;
 use doc_model::{Kind, Tree};

@@ -3,8 +3,8 @@ ghost use Rattle.std.specs.Prelude.{◌≡◌, ◌<◌, ℕ, List, Option, ◌&&
 ghost use Rattle.std.specs.Option.{option_or, option_copied};
 ghost use Rattle.std.specs.Str.{bytes_eq, chars, IsUtf8};
 ghost use Rattle.doc_model.specs.Document.{row, is_attribute};
-ghost use Rattle.step_index.specs.Named.{gives_id};
-ghost use Rattle.step_index.specs.Tables.{row_under, HasIds};
+ghost use Rattle.step_index.specs.inner.Tables.{gives_id};
+ghost use Rattle.step_index.specs.inner.Tables.{row_under, HasIds};
 
 use doc_model::{Kind, Tree};
 use indexmap::IndexMap;

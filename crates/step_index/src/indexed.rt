@@ -3,20 +3,23 @@ ghost use Rattle.std.specs.Prelude.{◌≡◌, ◌<◌, ◌≤◌, ◌+◌, ◌-
 ghost use Rattle.std.specs.List.{find};
 ghost use Rattle.std.specs.Str.{chars};
 ghost use Rattle.doc_model.specs.Document.{row, rows, is_element, is_element_kind};
+ghost use Rattle.doc_model.specs.Attributes.{has_id};
 ghost use Rattle.doc_model.specs.Axes.{axis_list};
 ghost use Rattle.doc_model.specs.RowLists.{IsFront};
-ghost use Rattle.step_index.specs.Named.{has_id, is_named, named, Before, GrowsByFront};
+ghost use Rattle.step_index.specs.Named.{is_named, named, GrowsByFront};
 ghost use Rattle.step_index.specs.Named as spec;
-ghost use Rattle.step_index.specs.Alike.{tally, HasAlike};
+ghost use Rattle.step_index.specs.inner.Alike.{tally, HasAlike};
 ghost use Rattle.step_index.specs.Siblings.{HasChildren, children_before};
-ghost use Rattle.step_index.specs.Tables.{HasNames, HasIds};
+ghost use Rattle.step_index.specs.inner.Tables.{HasNames, HasIds, Before};
 
 use crate::alike::Alike;
 use crate::children::Children;
 use crate::ids::Ids;
 use crate::names::Names;
 use crate::steps::Steps;
-use doc_model::{Axes, Axis, Kind, NodeTest, Tree, walk_any, walk_count, walk_first, walk_into};
+use doc_model::{
+    Axes, Axis, Kind, NodeTest, Tree, is_element, walk_any, walk_count, walk_first, walk_into,
+};
 use std::alloc::Global;
 use std::marker::Brand;
 use std::sync::ledger::{Blank, Ledger};
@@ -170,7 +173,7 @@ impl<T: Tree> Indexed<T> {
         Ok(())
     }
 
-    /// How many elements stand behind an element among its siblings.
+    /// How many elements stand after an element among its siblings.
     fn children_behind(&self, x: u32) -> u32
         requires row { x < length (T.document self.now.tree) }
         requires element { is_element (T.document self.now.tree) x ≡ true }
@@ -182,7 +185,7 @@ impl<T: Tree> Indexed<T> {
         all - before - 1
     }
 
-    /// How many elements of its name stand behind an element among its siblings.
+    /// How many elements of its name stand after an element among its siblings.
     fn alike_behind(&self, x: u32) -> u32
         requires row { x < length (T.document self.now.tree) }
         requires element { is_element (T.document self.now.tree) x ≡ true }
@@ -229,14 +232,6 @@ impl<T: Tree> Indexed<T> {
         }
         walk_any(&self.tree, x, axis, test)
     }
-}
-
-/// Whether the row is an element.
-fn is_element<T: Tree>(tree: &T, y: u32) -> bool
-    requires { y < length (T.document tree.now) }
-    ensures { result ≡ is_element (T.document tree.now) y }
-{
-    matches!(tree.kind(y), Kind::Element)
 }
 
 /// What stands at a place of the list.

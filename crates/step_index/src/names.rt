@@ -3,7 +3,7 @@ ghost use Rattle.std.specs.Prelude.{◌≡◌, ◌<◌, ◌++◌, ◌∷◌, ℕ
 ghost use Rattle.std.specs.Option.{unwrap_or};
 ghost use Rattle.std.specs.Str.{bytes_eq, chars, IsUtf8};
 ghost use Rattle.step_index.specs.Named.{is_named, named};
-ghost use Rattle.step_index.specs.Tables.{rows_under, HasNames};
+ghost use Rattle.step_index.specs.inner.Tables.{rows_under, HasNames};
 
 use doc_model::{Kind, Tree};
 use indexmap::IndexMap;

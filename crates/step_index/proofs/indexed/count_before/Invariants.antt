@@ -1,5 +1,5 @@
 use Rattle.std.proofs.Common.{◌≤◌, ◌+◌, ◌-◌, ◌*◌, ◌^◌, length}
-use Rattle.step_index.specs.Named.{Before}
+use Rattle.step_index.specs.inner.Tables.{Before}
 use Rattle.step_index.proofs.indexed.count_before.Given as goal
 
 abbrev pub invariant-loop-low : goal.invariant-loop-low

@@ -1,7 +1,7 @@
 use Rattle.std.proofs.Common.{sym, ◌∙◌, ap}
 use Rattle.std.specs.Str.{chars, bytes_eq}
 use Rattle.doc_model.specs.Document.{row, is_element_kind}
-use Rattle.step_index.proofs.Texts.{same_chars}
+use Rattle.doc_model.proofs.Texts.{same_chars}
 use Rattle.std.proofs.Common.{◌&&◌}
 use Rattle.step_index.proofs.indexed.is_named.Goals as goal
 

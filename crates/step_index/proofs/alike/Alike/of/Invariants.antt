@@ -1,4 +1,4 @@
-use Rattle.step_index.specs.Alike.{tally, HasAlike}
+use Rattle.step_index.specs.inner.Alike.{tally, HasAlike}
 use Rattle.step_index.proofs.alike.Alike.of.Given as goal
 
 abbrev pub invariant-loop-y : goal.invariant-loop-y

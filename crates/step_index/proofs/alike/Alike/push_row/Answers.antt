@@ -1,8 +1,8 @@
 use Rattle.std.proofs.Common.{sym, ◌∙◌, ap, arith}
 use Rattle.std.specs.Str.{chars}
 use Rattle.doc_model.specs.Document.{row, is_element_kind}
-use Rattle.step_index.specs.Alike.{tally}
-use Rattle.step_index.specs.Tables.{rows_under}
+use Rattle.step_index.specs.inner.Alike.{tally}
+use Rattle.step_index.specs.inner.Tables.{rows_under}
 use Rattle.step_index.proofs.Counted.{both_ok, not_element}
 use Rattle.step_index.proofs.Tallied as tallied
 use Rattle.step_index.proofs.alike.Alike.push_row.Goals as goal

@@ -2,7 +2,7 @@ use Rattle.std.proofs.Common.{sym, ◌∙◌, ap, cond, Some, None}
 use Rattle.std.specs.Option.{option_or}
 use Rattle.std.specs.Str.{chars}
 use Rattle.doc_model.specs.Document.{row}
-use Rattle.step_index.specs.Named.{gives_id}
+use Rattle.step_index.specs.inner.Tables.{gives_id}
 use Rattle.step_index.proofs.Filled as filled
 use Rattle.step_index.proofs.ids.Ids.of.Goals as goal
 

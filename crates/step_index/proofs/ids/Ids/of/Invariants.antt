@@ -1,4 +1,4 @@
-use Rattle.step_index.specs.Tables.{HasIds}
+use Rattle.step_index.specs.inner.Tables.{HasIds}
 use Rattle.step_index.proofs.ids.Ids.of.Given as goal
 
 abbrev pub invariant-loop-z : goal.invariant-loop-z

@@ -1,5 +1,5 @@
 use Rattle.std.proofs.Common.{sym, ◌∙◌}
-use Rattle.step_index.specs.Tables.{row_under}
+use Rattle.step_index.specs.inner.Tables.{row_under}
 use Rattle.step_index.proofs.Filled as filled
 use Rattle.step_index.proofs.ids.Ids.put_row.Goals as goal
 

@@ -1,8 +1,8 @@
 use Rattle.std.proofs.Common.{arith}
 use Rattle.std.specs.Str.{chars}
 use Rattle.doc_model.specs.Document.{row}
-use Rattle.step_index.specs.Alike.{tally}
-use Rattle.step_index.specs.Tables.{rows_under}
+use Rattle.step_index.specs.inner.Alike.{tally}
+use Rattle.step_index.specs.inner.Tables.{rows_under}
 use Rattle.step_index.proofs.Tallied as tallied
 use Rattle.step_index.proofs.indexed.Indexed.alike_behind.Goals as goal
 

@@ -1,4 +1,4 @@
-use Rattle.step_index.specs.Tables.{HasNames}
+use Rattle.step_index.specs.inner.Tables.{HasNames}
 use Rattle.step_index.proofs.names.Names.of.Given as goal
 
 abbrev pub invariant-loop-y : goal.invariant-loop-y

@@ -1,5 +1,5 @@
 use Rattle.std.proofs.Common.{sym, ◌∙◌}
-use Rattle.step_index.specs.Tables.{rows_under}
+use Rattle.step_index.specs.inner.Tables.{rows_under}
 use Rattle.step_index.proofs.Filled as filled
 use Rattle.step_index.proofs.names.Names.push_row.Goals as goal
 
