@@ -105,7 +105,7 @@ begins_no part s h = is_false (begins_with part s) (λ e. h ((bytes_eq-Decides (
 begins_yes : (part y : List ℕ) → begins_with part (part ++ y) ≡ true
 begins_yes part y = (bytes_eq-Decides (take (length part) (part ++ y)) part).1 (take-append_seam part y)
 
--- the marks that end a comment are first found behind its text
+-- the marks that end a comment are first found after its text
 close_first : (s y : List ℕ) → (Holds s (codes "-->") → ⊥) → first_place (begins_with (codes "-->")) (s ++ (codes "-->" ++ y)) ≡ length s
 close_first [] y h = ap (λ b. cond b 0 (1 + first_place (begins_with (codes "-->")) (codes "->" ++ y))) (begins_yes (codes "-->") y)
 close_first (c ∷ []) y h =
@@ -222,7 +222,7 @@ module _ (text s y : List ℕ) (i : ℕ) (front : drop i text ≡ codes "<!--" +
       not_slash : (a b : ℕ) → b ≡ 33 → ((a == 60) && (b == 47)) ≡ false
       not_slash a b h = grind (arith, nat_tests)
 
--- a text outside raw text: no `<` stands in it, and behind it markup begins, or nothing
+-- a text outside raw text: no `<` stands in it, and after it markup begins, or nothing
 abbrev pub IsNext : List ℕ → Type 0
 IsNext y = (y ≡ []) ⊎ (opens y ≡ true)
 
@@ -259,7 +259,7 @@ text_back text c s y i front no_lt next previous raw =
     neither true b h = cc
     neither false b h = refl
 
--- raw text: nothing in it begins the end tag of its element, and behind it that end tag stands
+-- raw text: nothing in it begins the end tag of its element, and after it that end tag stands
 pub raw_back : (text : List ℕ) (c : ℕ) (s y : List ℕ) (i : ℕ) (previous : List ℕ) → drop i text ≡ (c ∷ s) ++ y → is_raw previous ≡ true → first_place (closes previous) ((c ∷ s) ++ y) ≡ length (c ∷ s)
     → Begins text previous i (text_tok i (i + length (c ∷ s)) (c ∷ s) (is_escapable previous))
 raw_back text c s y i previous front raw found =
@@ -328,7 +328,7 @@ not_gap e = cc
 same_lower : (a b : List ℕ) → str_eq_ignore_ascii_case a b ≡ true → str_to_ascii_lowercase a ≡ str_to_ascii_lowercase b
 same_lower a b h = (bytes_eq-Decides (str_to_ascii_lowercase a) (str_to_ascii_lowercase b)).0 h
 
--- an end tag that begins in a text and goes on behind it does not meet the `<` there
+-- an end tag that begins in a text and goes on after it does not meet the `<` there
 pub closes_less : (name : List ℕ) (c : ℕ) (s r : List ℕ) → AllPass is_letter name → closes name ((c ∷ s) ++ (60 ∷ r)) ≡ true → closes name (c ∷ s) ≡ true
 closes_less name c s r letters h =
     let t = (c ∷ s) ++ (60 ∷ r) in

@@ -126,7 +126,7 @@ pub record TagFacts (text name attrs : List ℕ) (slash : Bool) (to : ℕ) : Typ
   pub attrs_utf8 : IsUtf8 attrs
   pub end : IsPlace text to
 
--- raw text, and that an end tag or nothing comes behind it
+-- raw text, and that an end tag or nothing comes after it
 abbrev IsEnd : TokenAt → Type 0
 IsEnd (Start n m to slash) = ⊥
 IsEnd (End n to) = Unit {0}
@@ -141,7 +141,7 @@ IsEndTok (text_tok from to raw refs) = ⊥
 IsEndTok (comment_tok from to body) = ⊥
 IsEndTok (doctype_tok from to) = ⊥
 
--- what comes directly behind the start tag of an element with raw text
+-- what comes directly after the start tag of an element with raw text
 abbrev pub RawFirst : List ℕ → List ℕ → ℕ → Tok → Type 0
 RawFirst text name i (start_tok from to tag attrs slash) = ⊥
 RawFirst text name i (end_tok from to tag) = Unit {0}
@@ -286,7 +286,7 @@ module _ (text : List ℕ) (utf8 : IsUtf8 text) where
   end_is i (Comment a b to) h = absurd h
   end_is i (Doctype to) h = absurd h
 
-  -- directly behind raw text
+  -- directly after raw text
   pub after_raw : (name : List ℕ) (i : ℕ) (x : Tok) → EndTagBegins name text i → Begins text [] i x → IsEndTok x
   after_raw name i x e h =
       let over : raw_end text [] i ≤ i = (let f : raw_end text [] i ≡ i = ap (λ b. cond b (find_where (closes []) text i) i) raw_none in omega arith) in

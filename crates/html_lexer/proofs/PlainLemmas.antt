@@ -67,14 +67,14 @@ module _ (text : List ℕ) where
   pub plain_moves : (i j : ℕ) → i < length text → j ≡ find_where opens text i → ((get_or text i 0 == 60) && is_opener (get_or text (i + 1) 0)) ≡ false → i < j
   plain_moves i j l e h = omega (arith, find_moves opens text i l (opens_at i ∙ h))
 
-  -- a `<` with no letter, `/`, `!` or `?` behind it begins no markup
+  -- a `<` with no letter, `/`, `!` or `?` after it begins no markup
   pub other_moves : (i j : ℕ) → i < length text → j ≡ find_where opens text i → starts_at text i ≡ false → (get_or text i 0 ≡ 60 → get_or text (i + 1) 0 ≡ 47 → ⊥) → (get_or text i 0 ≡ 60 → get_or text (i + 1) 0 ≡ 33 → ⊥) → (get_or text i 0 ≡ 60 → get_or text (i + 1) 0 ≡ 63 → ⊥) → i < j
   other_moves i j l e no_start no_end no_bang no_query = plain_moves i j l e (no_opener (get_or text i 0) (get_or text (i + 1) 0) no_start no_end no_bang no_query)
     where
       no_opener : (a b : ℕ) → ((a == 60) && is_letter b) ≡ false → (a ≡ 60 → b ≡ 47 → ⊥) → (a ≡ 60 → b ≡ 33 → ⊥) → (a ≡ 60 → b ≡ 63 → ⊥) → ((a == 60) && is_opener b) ≡ false
       no_opener a b s e x q = grind (arith, nat_tests)
 
--- the place behind the `>` that is found
+-- the place after the `>` that is found
 pub past_bracket : (text : List ℕ) (i j k : ℕ) → IsUtf8 text → j ≡ run_end (is_not_byte 62) text i → j < length text → k ≡ j + 1 → IsPlace text k
 past_bracket text i j k utf8 e l is =
     let t : is_not_byte 62 (get_or text j 0) ≡ false = subst (λ n. is_not_byte 62 (get_or text n 0) ≡ false) (sym e) (run_end_stops (is_not_byte 62) text i (omega arith)) in

@@ -8,7 +8,7 @@ use Rattle.text_base.proofs.Boundaries.{in_text}
 use Rattle.text_base.proofs.Places.{find_here, find_later, find_in}
 
 module _ (text : List ℕ) where
-  -- a byte and the rest behind it
+  -- a byte and the rest after it
   pub rest_byte : (i b : ℕ) (y : List ℕ) → drop i text ≡ b ∷ y → get_or text i 0 ≡ b
   rest_byte i b y h = ap (λ n. get_or text n 0) (sym (add-zero i)) ∙ sym (get_or-drop i text 0 0) ∙ ap (λ s. get_or s 0 0) h
 
@@ -16,7 +16,7 @@ module _ (text : List ℕ) where
   byte_rest i j b e some h =
       drop_more text i 0 (in_text text i (omega arith)) ∙ ap (λ c. c ∷ drop (i + 1) text) h ∙ ap (λ n. b ∷ drop n text) (sym e)
 
-  -- a list and the rest behind it
+  -- a list and the rest after it
   pub rest_past : (i j : ℕ) (x y : List ℕ) → j ≡ i + length x → drop i text ≡ x ++ y → drop j text ≡ y
   rest_past i j x y at h =
       ap (λ n. drop n text) (let e : j ≡ _ = omega arith in e) ∙ sym (drop-drop (length x) i text) ∙ ap (drop (length x)) h ∙ drop-append_seam x y

@@ -1,5 +1,5 @@
 -- Steps put together.
-use Rattle.std.proofs.Common.{◌≡◌, ℕ, ◌+◌, List, true, get_or, sym, ap, subst, eq-eqb, Bool}
+use Rattle.std.proofs.Common.{◌≡◌, ℕ, ◌+◌, List, true, get_or, sym, subst, eq-eqb, Bool}
 use Rattle.std.specs.Prelude.{◌==◌}
 use Rattle.std.specs.Bool.{MatchBool}
 use Rattle.text_base.specs.Text.{run_end, is_letter}
@@ -14,7 +14,7 @@ use Rattle.html_lexer.specs.Steps.{StartAt, MarkupAt, StepAt, other_at}
 use Rattle.html_lexer.specs.declared.steps.Step.{Step}
 use Rattle.html_lexer.specs.declared.steps.Step.TheVariants.{Gives}
 use Rattle.html_lexer.specs.declared.steps.TokenAt.{TokenAt}
-use Rattle.html_lexer.specs.Tokens.{Tok, tok_at, start_tok}
+use Rattle.html_lexer.specs.Tokens.{Tok, tok_at, start_tok, end_of, name_after}
 use Rattle.html_lexer.specs.Lexing.{Begins}
 use Rattle.html_lexer.proofs.PlainLemmas.{both}
 
@@ -28,8 +28,10 @@ markup_start text i n step lt letter e h =
 pub given : (old inside : Reading) (parts : TokenAt) (t : Tok) → inside ≡ old → StepAt inside.text inside.name inside.at (Gives parts) → t ≡ tok_at inside.text inside.at parts → Begins old.text old.name old.at t
 given old inside parts t e step is = subst (λ (r : Reading). Begins r.text r.name r.at t) e (parts, step, is)
 
-pub after : (old inside : Reading) (at : ℕ) (name : List ℕ) → inside ≡ old → (let new : Reading = record { text = inside.text; at = at; name = name } in new) ≡ record { text = old.text; at = at; name = name }
-after old inside at name e = ap (λ (r : Reading). let new : Reading = record { text = r.text; at = at; name = name } in new) e
+-- where the lexer stands after the token
+pub gone_on : (old inside : Reading) (at : ℕ) (name : List ℕ) (t : Tok) → inside ≡ old → at ≡ end_of t → name ≡ name_after t
+    → (let new : Reading = record { text = inside.text; at = at; name = name } in new) ≡ record { text = old.text; at = end_of t; name = name_after t }
+gone_on old inside at name t e p q = λ i. record { text = (e i).text; at = p i; name = q i }
 
 -- the same of attributes
 pub given_attr : (old inside : AttrReading) (a : Attribute) → inside ≡ old → Reads a ≡ attr_at inside.text inside.at → attr_at old.text old.at ≡ Reads a

@@ -67,7 +67,7 @@ closes_here text i y h =
     no_slash : (a : ℕ) (b : Bool) → (ltb a a && b) ≡ false
     no_slash a b = let e : ltb a a ≡ false = grind (arith, nat_tests) in ap (λ x. x && b) e
 
--- a space and then an attribute, whose name is b and bytes behind it
+-- a space and then an attribute, whose name is b and bytes after it
 module _ (text : List ℕ) (i b : ℕ) (n v r : List ℕ) (front : drop i text ≡ 32 ∷ ((b ∷ n) ++ (61 ∷ 34 ∷ (v ++ 34 ∷ r)))) (passes : AllPass is_attr_byte (b ∷ n)) (no_quote : AllPass (is_not_byte 34) v) where
   abbrev sign : ℕ
   sign = i + 1 + length (b ∷ n)

@@ -81,7 +81,7 @@ pub record IsQuotable (a : List ℕ × List ℕ) : Type 0 where
   pub name : AllPass is_attr_byte a.0
   pub value : AllPass (is_not_byte 34) a.1
 
--- attributes, each behind a space and with its value in double quotes
+-- attributes, each after a space and with its value in double quotes
 abbrev pub written : List (List ℕ × List ℕ) → List ℕ
 written [] = []
 written (a ∷ attributes) = codes " " ++ (a.0 ++ (codes "=\"" ++ (a.1 ++ (codes "\"" ++ written attributes))))

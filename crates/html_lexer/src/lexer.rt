@@ -1,6 +1,8 @@
 ghost use Rattle.std.specs.Prelude.{◌≡◌, ◌<◌, ◌≤◌, [], length, IfOk, IfSome};
 ghost use Rattle.text_base.specs.Text.{IsPlace};
+ghost use Rattle.html_lexer.specs.Cuts.{IsCut};
 ghost use Rattle.html_lexer.specs.Lexing.{IsNext};
+ghost use Rattle.html_lexer.specs.Tokens.{view, tok_at, end_of, name_after};
 
 use crate::steps::{Step, TokenAt, step_at};
 use std::marker::Model;
@@ -42,6 +44,76 @@ pub enum Token<'t> {
         from: usize,
         to: usize,
     },
+}
+
+impl<'t> Token<'t> {
+    /// The byte before which the token ends.
+    fn end(self) -> usize
+        ensures { result ≡ end_of (view self.entry) }
+    {
+        match self {
+            Token::Start { to, .. }
+            | Token::End { to, .. }
+            | Token::Text { to, .. }
+            | Token::Comment { to, .. }
+            | Token::Doctype { to, .. } => to,
+        }
+    }
+
+    /// The name of a start tag as it is written, and the empty text for another token.
+    pub fn name_after(self) -> &'t str
+        ensures { result.now ≡ name_after (view self.entry) }
+    {
+        match self {
+            Token::Start { name, .. } => name,
+            _ => "",
+        }
+    }
+}
+
+/// The token of a page that begins at a place and whose parts stand at these.
+fn token_at<'t>(text: &'t str, from: usize, parts: TokenAt) -> Token<'t>
+    requires place { IsPlace text.now from }
+    requires cut { IsCut text.now from parts }
+    ensures token { view result ≡ tok_at text.now from parts }
+    ensures moves { from < end_of (view result) }
+    ensures end { IsPlace text.now (end_of (view result)) }
+{
+    match parts {
+        TokenAt::Start {
+            name_to,
+            attrs_to,
+            to,
+            slash,
+        } => Token::Start {
+            from,
+            to,
+            name: part(text, from + 1, name_to),
+            attrs: part(text, name_to, attrs_to),
+            slash,
+        },
+        TokenAt::End { name_to, to } => Token::End {
+            from,
+            to,
+            name: part(text, from + 2, name_to),
+        },
+        TokenAt::Text { to, refs } => Token::Text {
+            from,
+            to,
+            raw: part(text, from, to),
+            refs,
+        },
+        TokenAt::Comment {
+            text_from,
+            text_to,
+            to,
+        } => Token::Comment {
+            from,
+            to,
+            text: part(text, text_from, text_to),
+        },
+        TokenAt::Doctype { to } => Token::Doctype { from, to },
+    }
 }
 
 /// Reads a page, token by token.
@@ -92,63 +164,11 @@ impl<'t> Lexer<'t> {
         }
         match step_at(text, self.name, from) {
             Step::Fails(reason) => Err(PageFault { reason, at: from }),
-            Step::Gives(
-                TokenAt::Start {
-                    name_to,
-                    attrs_to,
-                    to,
-                    slash,
-                },
-            ) => {
-                let name = part(text, from + 1, name_to);
-                self.at = to;
-                self.name = name;
-                Ok(Some(Token::Start {
-                    from,
-                    to,
-                    name,
-                    attrs: part(text, name_to, attrs_to),
-                    slash,
-                }))
-            }
-            Step::Gives(TokenAt::End { name_to, to }) => {
-                self.at = to;
-                self.name = "";
-                Ok(Some(Token::End {
-                    from,
-                    to,
-                    name: part(text, from + 2, name_to),
-                }))
-            }
-            Step::Gives(TokenAt::Text { to, refs }) => {
-                self.at = to;
-                self.name = "";
-                Ok(Some(Token::Text {
-                    from,
-                    to,
-                    raw: part(text, from, to),
-                    refs,
-                }))
-            }
-            Step::Gives(
-                TokenAt::Comment {
-                    text_from,
-                    text_to,
-                    to,
-                },
-            ) => {
-                self.at = to;
-                self.name = "";
-                Ok(Some(Token::Comment {
-                    from,
-                    to,
-                    text: part(text, text_from, text_to),
-                }))
-            }
-            Step::Gives(TokenAt::Doctype { to }) => {
-                self.at = to;
-                self.name = "";
-                Ok(Some(Token::Doctype { from, to }))
+            Step::Gives(parts) => {
+                let token = token_at(text, from, parts);
+                self.at = token.end();
+                self.name = token.name_after();
+                Ok(Some(token))
             }
         }
     }

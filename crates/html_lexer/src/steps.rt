@@ -171,7 +171,7 @@ fn other_at(text: &str, at: usize) -> Step
     })
 }
 
-/// The start tag whose name begins behind a place and ends at `name_to`.
+/// The start tag whose name begins after a place and ends at `name_to`.
 #[tactic(auto, using(text_base::proofs::Boundaries::before_ascii, text_base::proofs::Boundaries::after_ascii, text_base::proofs::Boundaries::past_ascii, crate::proofs::PlainLemmas::plain_moves, crate::proofs::PlainLemmas::letter_is_name))]
 fn start_at(text: &str, at: usize, name_to: usize) -> Step
     requires order { at + 1 ≤ name_to }
