@@ -1,4 +1,5 @@
--- Names of elements whose content is raw text, in any letter case (HTML, section 13.2.5, "RAWTEXT", "RCDATA" and "script data" states).
+-- Names of elements, and of those whose content is raw text, in any letter case (HTML, section 13.2.5, "RAWTEXT",
+-- "RCDATA" and "script data" states).
 use Rattle.std.specs.Prelude.{ℕ, ◌+◌, ◌==◌, ◌&&◌, ◌||◌, nat_le, Bool, List, [], ◌∷◌, length, map, slice_index, slice_range, codes}
 use Rattle.std.specs.List.{list_any}
 use Rattle.std.specs.Str.{str_eq_ignore_ascii_case}
@@ -11,6 +12,16 @@ is_one_of names name = list_any (λ n. str_eq_ignore_ascii_case n name) names
 -- texts without where they lie in memory
 abbrev pub texts : List (Bor (List ℕ)) → List (List ℕ)
 texts names = map (λ (n : Bor (List ℕ)). n.now) names
+
+-- elements with no content and no end tag (HTML, section 13.1.2)
+unfoldable pub void_names : List (List ℕ)
+void_names =
+    codes "area" ∷ codes "base" ∷ codes "br" ∷ codes "col" ∷ codes "embed" ∷ codes "hr" ∷ codes "img" ∷ codes "input" ∷ codes "link" ∷ codes "meta"
+    ∷ codes "param" ∷ codes "source" ∷ codes "track" ∷ codes "wbr" ∷ []
+
+-- elements whose content may begin with a newline that does not count (HTML, section 13.1.2.5)
+unfoldable pub newline_names : List (List ℕ)
+newline_names = codes "pre" ∷ codes "textarea" ∷ codes "listing" ∷ []
 
 -- raw text in which references do not count
 unfoldable pub literal_names : List (List ℕ)

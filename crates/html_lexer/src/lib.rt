@@ -14,5 +14,6 @@ mod tags;
 pub use attrs::Attrs;
 pub use laws::{lexical_fault, one_attribute_list, one_reading, token_laws};
 pub use lexer::{Lexer, Token};
+pub use names::{literal_names, newline_names, takes_newline, void_names};
 pub use steps::{Step, TokenAt, step_at};
 pub use tags::{AttrStep, Attribute, attr_at, tag_end};

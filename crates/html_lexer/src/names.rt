@@ -1,15 +1,44 @@
 ghost use Rattle.std.specs.Prelude.{◌≡◌, ◌≤◌, ◌+◌, ◌&&◌, ◌||◌, length, drop};
 ghost use Rattle.std.specs.Str.{str_eq_ignore_ascii_case};
-ghost use Rattle.html_lexer.specs.Names.{is_one_of, literal_names, texts, is_raw, is_escapable, is_plaintext, has_letters, closes};
+ghost use Rattle.html_lexer.specs.Names.{is_one_of, void_names, newline_names, literal_names, texts, is_raw, is_escapable, is_plaintext, has_letters, closes};
 
 use crate::kinds::Gap;
 use text_base::{ByteKind, byte_at};
 
-/// The elements whose content is raw text in which references do not count.
+static VOID: [&str; 14] = [
+    "area", "base", "br", "col", "embed", "hr", "img", "input", "link", "meta", "param", "source",
+    "track", "wbr",
+];
+
+static NEWLINE: [&str; 3] = ["pre", "textarea", "listing"];
+
 static LITERAL: [&str; 6] = ["script", "style", "iframe", "xmp", "noembed", "noframes"];
 
-/// The elements whose content is raw text in which they do.
 static ESCAPABLE: [&str; 2] = ["title", "textarea"];
+
+/// The elements with no content and no end tag, in lower case.
+#[tactic(auto, unfolding(crate::specs::Names::void_names))]
+pub fn void_names() -> &'static [&'static str]
+    ensures { texts result.now ≡ void_names }
+{
+    &VOID
+}
+
+/// The elements whose content may begin with a newline that does not count, in lower case.
+#[tactic(auto, unfolding(crate::specs::Names::newline_names))]
+pub fn newline_names() -> &'static [&'static str]
+    ensures { texts result.now ≡ newline_names }
+{
+    &NEWLINE
+}
+
+/// The elements whose content is raw text in which references do not count, in lower case.
+#[tactic(auto, unfolding(crate::specs::Names::literal_names))]
+pub fn literal_names() -> &'static [&'static str]
+    ensures { texts result.now ≡ literal_names }
+{
+    &LITERAL
+}
 
 /// Whether two names differ in the case of ASCII letters alone. Most differ in length, so that is looked at first.
 fn same_letters(name: &str, other: &str) -> bool
@@ -30,11 +59,17 @@ fn is_one_of(names: &[&str], name: &str) -> bool
     false
 }
 
-#[tactic(auto, unfolding(crate::specs::Names::literal_names))]
 fn is_literal(name: &str) -> bool
     ensures { result ≡ is_one_of literal_names name.now }
 {
-    is_one_of(&LITERAL, name)
+    is_one_of(literal_names(), name)
+}
+
+/// Whether the content of this element, named in any letter case, may begin with a newline that does not count.
+pub fn takes_newline(name: &str) -> bool
+    ensures { result ≡ is_one_of newline_names name.now }
+{
+    is_one_of(newline_names(), name)
 }
 
 /// Whether references count in the raw text of this element.
