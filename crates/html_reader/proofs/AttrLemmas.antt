@@ -2,7 +2,7 @@
 use Rattle.std.proofs.lemmas.Bool.{or_left, or_right, eq-eqb}
 use Rattle.std.proofs.Common.{IsTrue, ◌||◌, ◌&&◌, eqb, ◌≡◌, ℕ, zero, suc, ◌+◌, ◌≤◌, ◌<◌, List, [], ◌∷◌, ◌++◌, map, length, take, get_or, false, sym, refl, ◌∙◌, ap, subst, arith, append_assoc, append-nil, length-append, length-take}
 use Rattle.std.proofs.Common.{◌-◌, Option, Some, None, option_to_list, IsSome, ◌↔◌}
-use Rattle.html_reader.specs.Parents.{Small, Within}
+use Rattle.html_reader.specs.inner.Parents.{Small, Within}
 use Rattle.html_reader.proofs.CalmLemmas.{within_flushed}
 use Rattle.std.proofs.lemmas.List.{get_or_append_left, length-map}
 use Rattle.html_reader.specs.declared.token.Attr as code
@@ -13,13 +13,13 @@ use Rattle.html_reader.specs.Tokens.{Attr, Tag, comment}
 use Rattle.html_reader.specs.Rows.{sofar, flushed, text_rows, row_of_text, row_of_element, row_of_attribute, row_of_comment, tag_rows}
 use Rattle.html_reader.specs.Places.{Grown, below}
 use Rattle.doc_model.specs.Growing.{innermost}
-use Rattle.html_reader.specs.Machine.{held, settled, state, with_some, opened, closed, without_first}
+use Rattle.html_reader.specs.inner.Machine.{held, settled, state, with_some, opened, closed, without_first}
 use Rattle.html_reader.specs.declared.reader.Root.{Root}
 use Rattle.doc_model.specs.Growing.{Growing, growing, with_text, with_comment, with_element, with_close, rest_of, AwaitsAttr}
-use Rattle.html_reader.specs.Kept.{IsNew, AreKept, EndsInElement}
-use Rattle.html_reader.specs.Pieces.{owned_bytes}
+use Rattle.html_reader.specs.inner.Kept.{IsNew, AreKept, EndsInElement}
+use Rattle.html_reader.specs.inner.Pieces.{owned_bytes}
 use Rattle.std.specs.Str.{chars}
-use Rattle.html_reader.specs.States.{attr_of, tag_of, tags_onto, grown_of, the_state}
+use Rattle.html_reader.specs.inner.States.{attr_of, tag_of, tags_onto, grown_of, the_state}
 use Rattle.html_reader.specs.declared.token.StartTag.{StartTag}
 
 new_at : (name : List ℕ) (attrs : List code.Attr) (k : ℕ) (d : code.Attr) → IsNew name (map attr_of attrs) → k < length attrs → chars (owned_bytes (get_or attrs k d).name) ≡ chars name → ⊥
@@ -37,7 +37,7 @@ kept_new [] k d h l = absurd (omega arith)
 kept_new (a ∷ attrs) zero d h l = tt
 kept_new (a ∷ attrs) (suc k) d h l = ((λ e. new_at (owned_bytes a.name) attrs k d h.1 (omega arith) (sym e)), kept_new attrs k d h.2 (omega arith))
 
--- rows behind others
+-- rows after others
 row_behind : (xs ys : Document) (j : ℕ) → row (xs ++ ys) (length xs + j) ≡ row ys j
 row_behind [] ys j = let e : 0 + j ≡ j = omega arith in ap (row ys) e
 row_behind (x ∷ xs) ys j = let e : length (x ∷ xs) + j ≡ suc (length xs + j) = omega arith in ap (row ((x ∷ xs) ++ ys)) e ∙ row_behind xs ys j
@@ -58,7 +58,7 @@ small_at m [] k h l = absurd (omega arith)
 small_at m (r ∷ rows) zero h l = h.0
 small_at m (r ∷ rows) (suc k) h l = small_at m rows k h.1 (omega arith)
 
--- the rows of an element and its attributes, behind others
+-- the rows of an element and its attributes, after others
 new_behind : (front : Document) (parent n : ℕ) (tag : Tag) (name : List ℕ) (doc : Document) (k : ℕ) → Within front → doc ≡ front ++ tag_rows parent n tag → n ≡ length front → IsNew name tag.attrs
     → k < length doc → (row doc k).kind ≡ Attribute → (row doc k).parent ≡ n → (row doc k).name ≡ chars name → ⊥
 new_behind front parent n tag name doc k small e at new l kind par =

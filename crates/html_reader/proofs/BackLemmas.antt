@@ -1,4 +1,4 @@
--- Tokens of a tree that is written out lead to the tree: an end is inserted behind the start tags of void elements and nowhere else.
+-- Tokens of a tree that is written out lead to the tree: an end is inserted after the start tags of void elements and nowhere else.
 use Rattle.std.proofs.Common.{◌≡◌, ℕ, ◌<◌, List, [], ◌∷◌, ◌++◌, length, Bool, true, false, ◌&&◌, ◌||◌, cond, sym, refl, ◌∙◌, ap, subst, arith, Option, Some, Ok, append_assoc, append-nil, eqb}
 use Rattle.std.specs.Prelude.{not}
 use Rattle.std.specs.Str.{bytes_eq}
@@ -9,8 +9,8 @@ use Rattle.html_reader.specs.Forest.{Forest, nothing, then_leaf, then_element, m
 use Rattle.html_reader.specs.Tables.{is_void, may_omit_end}
 use Rattle.html_reader.specs.Places.{most_open}
 use Rattle.html_reader.specs.Words.{is_shut, ends_at, tokens_of}
-use Rattle.html_reader.specs.Machine.{State, with_some, opened, held, closed, step, shuts, is_named, is_empty, without_first}
-use Rattle.html_reader.specs.Taking.{LeadsTo}
+use Rattle.html_reader.specs.inner.Machine.{State, with_some, opened, held, closed, step, shuts, is_innermost, is_empty, without_first}
+use Rattle.html_reader.specs.inner.Taking.{LeadsTo}
 use Rattle.html_reader.proofs.PageLemmas.{tokens_of-append}
 use Rattle.html_reader.proofs.ReadLemmas.{takes_token}
 use Rattle.html_reader.proofs.SoundLemmas.{shuts_tags, none_tags}
@@ -19,7 +19,7 @@ use Rattle.html_reader.proofs.SoundLemmas.{shuts_tags, none_tags}
 abbrev pub Alike : State → State → Type 0
 Alike s t = (next : Option Tok) → shuts next s ≡ shuts next t
 
--- the state behind a tree, below the innermost open element
+-- the state after a tree, below the innermost open element
 abbrev pub behind : State → Forest → State
 behind s nothing = s
 behind s (then_leaf leaf rest) = behind (held s leaf) rest
@@ -47,7 +47,7 @@ still next s h = none_tags next s.tags s.rooted s.grown h
 alike_refl : (s : State) → Alike s s
 alike_refl s next = refl
 
--- what holds behind some tokens
+-- what holds after some tokens
 pub record Comes (tokens : List Tok) (s : State) : Type 0 where
   pub at : State
   pub led : LeadsTo tokens at
@@ -85,7 +85,7 @@ free_start s tag unmade h few =
     other n l = grind (arith, nat_tests)
 
 free_end : (s : State) (tag : Tag) (tags : List Tag) → s.tags ≡ tag ∷ tags → step s (ends tag.name) ≡ Ok (closed s)
-free_end s tag tags e = pick_yes (is_named s.tags tag.name) _ _ (ap (λ ts. is_named ts tag.name) e ∙ (bytes_eq-Decides tag.name tag.name).1 refl)
+free_end s tag tags e = pick_yes (is_innermost s.tags tag.name) _ _ (ap (λ ts. is_innermost ts tag.name) e ∙ (bytes_eq-Decides tag.name tag.name).1 refl)
 
 -- what stays
 pub behind_tags : (s : State) (f : Forest) → (behind s f).tags ≡ s.tags

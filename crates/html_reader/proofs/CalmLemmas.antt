@@ -7,8 +7,8 @@ use Rattle.doc_model.specs.Document.{Row, is_text_kind, is_attribute_kind}
 use Rattle.html_reader.specs.Rows.{Sofar, sofar, flushed, entered, with_leaf, grown, row_of_attribute, row_of_comment, text_rows, tag_rows}
 use Rattle.html_reader.specs.Places.{Place, outside, within, base, place_grown, Grown, below}
 use Rattle.doc_model.specs.Growing.{innermost}
-use Rattle.html_reader.specs.Parents.{Small, Within}
-use Rattle.html_reader.specs.Children.{ends_in_text, is_child}
+use Rattle.html_reader.specs.inner.Parents.{Small, Within}
+use Rattle.doc_model.specs.inner.LastChild.{ends_in_text, is_child}
 
 pub ends_in_text-append : (p : ℕ) (b : Bool) (xs ys : List Row) → ends_in_text p b (xs ++ ys) ≡ ends_in_text p (ends_in_text p b xs) ys
 ends_in_text-append p b [] ys = refl

@@ -10,8 +10,8 @@ use Rattle.html_reader.specs.Rows.{sofar, flushed, entered, with_leaf, grown}
 use Rattle.html_reader.specs.Tables.{is_void, may_omit_end, start_ends, endings, void_names}
 use Rattle.html_reader.specs.Places.{Place, outside, within, place_marks, open_tags, most_open, with_piece, Grown, base, place_grown, all_rows, Fits, is_some}
 use Rattle.html_reader.specs.Words.{is_shut, ends_at, tokens_of, begins_shut, IsFull}
-use Rattle.html_reader.specs.Machine.{State, held, opened, closed, closing, shuts, is_empty}
-use Rattle.html_reader.specs.Reached.{state_at}
+use Rattle.html_reader.specs.inner.Machine.{State, held, opened, closed, closing, shuts, is_empty}
+use Rattle.html_reader.specs.inner.Reached.{state_at}
 use Rattle.html_reader.specs.Reading.{Builds}
 use Rattle.html_reader.proofs.PlaceLemmas.{add, lone, add-marks}
 use Rattle.html_reader.proofs.ReadLemmas.{starts_led, builds}
@@ -25,7 +25,7 @@ abbrev pub text_leaf : List ℕ → Forest → Forest
 text_leaf [] rest = rest
 text_leaf (c ∷ cs) rest = then_leaf (text (c ∷ cs)) rest
 
--- the content of an element, behind a text that waits
+-- the content of an element, after a text that waits
 abbrev pub clean : List ℕ → Forest → Forest
 clean waits nothing = text_leaf waits nothing
 clean waits (then_leaf (text content) rest) = clean (waits ++ content) rest
@@ -225,7 +225,7 @@ behind_rooted s nothing h = absurd (omega (arith, h))
 behind_rooted s (then_leaf leaf rest) h = behind_rooted (held s leaf) rest h
 behind_rooted s (then_element tag inside inserted rest) h = behind_some (closed (behind (opened s tag) inside)) rest (behind_some (opened s tag) inside refl)
 
--- the rows behind a tree
+-- the rows after a tree
 pub behind_grown : (s : State) (g : Forest) → (behind s g).grown ≡ with_piece s.grown g
 behind_grown s nothing = refl
 behind_grown s (then_leaf leaf rest) = behind_grown (held s leaf) rest

@@ -16,7 +16,7 @@ use Rattle.html_reader.specs.Forest.{Forest, nothing, then_leaf, then_element}
 use Rattle.html_reader.specs.Rows.{tag_rows, row_of_text, row_of_comment, row_of_attribute, row_of_element}
 use Rattle.html_reader.proofs.SegmentLemmas.{rows_at, none_found, range_append}
 
--- rows whose parent is p or stands at a or behind it
+-- rows whose parent is p or stands at a or after it
 abbrev pub Parents : ℕ → ℕ → List Row → Type 0
 Parents p a [] = Unit {0}
 Parents p a (r ∷ rs) = ((r.parent ≡ p) ⊎ (a ≤ r.parent)) × Parents p a rs

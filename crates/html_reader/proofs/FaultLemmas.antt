@@ -13,8 +13,8 @@ use Rattle.html_reader.specs.Tokens.{Tag, Tok, starts, ends, holds}
 use Rattle.html_reader.specs.Places.{Place, place_marks, open_tags, root_at}
 use Rattle.html_reader.specs.declared.reader.Root.{Root}
 use Rattle.html_reader.specs.Reading.{is_fragment, Leads, Builds, Refuses, RefusesNext}
-use Rattle.html_reader.specs.Machine.{State}
-use Rattle.html_reader.specs.Taking.{LeadsTo}
+use Rattle.html_reader.specs.inner.Machine.{State}
+use Rattle.html_reader.specs.inner.Taking.{LeadsTo}
 use Rattle.html_reader.specs.Pages.{Stops, Whole, IsMade, Means, Spells, Comes, BuildsPage, IsRefused, IsTreeFault, IsFault, IsPageFault}
 use Rattle.html_reader.specs.PageLaws.{OnePageDocument, OnePageFault, NeverBothOfPage, IsPageReason, PageReasons, OneWord}
 use Rattle.html_reader.proofs.MoveLemmas.{step_moves}
@@ -43,7 +43,7 @@ tree_or_markup : (page before : List ℕ) (at : ℕ) (next : Option Tok) (reason
 tree_or_markup page before at None reason h k = omega (arith, h, k.0)
 tree_or_markup page before at (Some t) reason h k = no_fail page before at h.0 reason h.1 k
 
--- where a token stands that is refused, no place is reached behind it
+-- where a token stands that is refused, no place is reached after it
 not_behind : {made : Bool} (page before : List ℕ) (at : ℕ) (us vs : List Tok) (next : Option Tok) (reason : PageReason) (z : Lexed) (t : Tok) (after : Option Tok) (q : Place) → Comes page before at next → IsRefused made us next reason → Begins page before at z → Means before z t → Leads made (us ++ t ∷ vs) after q → ⊥
 not_behind {made} page before at us vs next reason z t after q comes refused begins means leads =
     let e : next ≡ Some t = one_next page before at next (Some t) comes (z, begins, means) in
@@ -65,7 +65,7 @@ one_whole page v w = same_whole page v w (spellings page v.at w.at v.tokens w.to
 pub one_made : (page : List ℕ) (a b : Bool) → IsMade page a → IsMade page b → a ≡ b
 one_made page a b h k = sym h.is ∙ ap is_fragment (one_whole page h.whole k.whole) ∙ k.is
 
--- a fault lies at or behind each place that is reached without one
+-- a fault lies at or after each place that is reached without one
 markup_after : (page : List ℕ) (at place : ℕ) (ts us : List Tok) (s : Spells page at ts) (r : Spells page place us) (reason : PageReason) → StepAt page (last_name [] r.read) place (Fails reason) → Meets page [] s.read r.read ts us at place → at ≤ place
 markup_after page at place ts us s r reason fails (even e f same) = omega (arith, same)
 markup_after page at place ts us s r reason fails (less z t vs next means is below) = omega (arith, below)

@@ -12,7 +12,7 @@ use Rattle.html_lexer.proofs.LexLemmas.{last_push}
 use Rattle.html_reader.specs.Tokens.{Tag, Tok, starts, ends, holds}
 use Rattle.html_reader.specs.Reading.{is_fragment}
 use Rattle.html_reader.specs.Contents.{kept}
-use Rattle.html_reader.specs.Keeping.{is_start}
+use Rattle.html_reader.specs.inner.Keeping.{is_start}
 use Rattle.html_reader.specs.Pages.{Means, Spells, Whole, IsMade}
 use Rattle.html_reader.proofs.FaultLemmas.{not_stopped}
 use Rattle.html_reader.proofs.PageReadings.{some_whole}

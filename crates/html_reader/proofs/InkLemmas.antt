@@ -47,7 +47,7 @@ newline takes (c ∷ cs) = cond (takes && (c == 10)) (10 ∷ []) []
 abbrev pub is_literal : List ℕ → Bool
 is_literal name = is_raw name && not (is_escapable name)
 
--- the text of a tree, directly behind a start tag of this name or, where the name is [], behind another token
+-- the text of a tree, directly after a start tag of this name or, where the name is [], after another token
 abbrev pub ink_content : List ℕ → List ℕ → List ℕ
 ink_content before s = cond (is_literal before) s (newline (takes_newline before) s ++ ink_text false s)
 

@@ -13,10 +13,10 @@ use Rattle.html_lexer.specs.Attributes.{Writes, IsLast, pair_at}
 use Rattle.html_reader.specs.declared.token.Attr as code
 use Rattle.html_reader.specs.Tokens.{Attr}
 use Rattle.html_reader.specs.Contents.{without, kept}
-use Rattle.html_reader.specs.Kept.{AreKept}
-use Rattle.html_reader.specs.Pieces.{owned_bytes}
-use Rattle.html_reader.specs.States.{attr_of}
-use Rattle.html_reader.specs.Keeping.{has_name, HaveTexts, Knows, HasKept, Keeps}
+use Rattle.html_reader.specs.inner.Kept.{AreKept}
+use Rattle.html_reader.specs.inner.Pieces.{owned_bytes}
+use Rattle.html_reader.specs.inner.States.{attr_of}
+use Rattle.html_reader.specs.inner.Keeping.{has_name, HaveTexts, Knows, HasKept, Keeps}
 use Rattle.html_reader.proofs.KeptLemmas.{HaveNames, kept_are}
 use Rattle.html_reader.proofs.MoveLemmas.{read_moves}
 

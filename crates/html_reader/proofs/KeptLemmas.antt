@@ -5,8 +5,8 @@ use Rattle.std.specs.Str.{IsUtf8, bytes_eq, str_to_ascii_lowercase}
 use Rattle.std.proofs.lemmas.Slice.Eq.{bytes_eq-Decides}
 use Rattle.text_base.proofs.Text.{same_bytes}
 use Rattle.html_reader.specs.Tokens.{Attr}
-use Rattle.html_reader.specs.Kept.{IsNew, AreKept}
-use Rattle.html_reader.specs.Keeping.{HaveTexts}
+use Rattle.html_reader.specs.inner.Kept.{IsNew, AreKept}
+use Rattle.html_reader.specs.inner.Keeping.{HaveTexts}
 use Rattle.html_reader.specs.Contents.{without, kept}
 use Rattle.html_reader.proofs.PieceLemmas.{some_chars}
 

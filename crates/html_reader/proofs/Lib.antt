@@ -11,7 +11,6 @@ pub mod AttrLemmas
 pub mod SoundLemmas
 pub mod TestLemmas
 pub mod Witness
-pub mod TextLemmas
 pub mod RoomLemmas
 pub mod LawLemmas
 pub mod PieceLemmas

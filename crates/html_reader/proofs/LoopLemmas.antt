@@ -13,11 +13,11 @@ use Rattle.html_lexer.proofs.LexLemmas.{last_push}
 use Rattle.html_lexer.proofs.StepLemmas.{attrs_of}
 use Rattle.html_reader.specs.declared.token.Token.{Token}
 use Rattle.html_reader.specs.Tokens.{Tok}
-use Rattle.html_reader.specs.Machine.{State}
-use Rattle.html_reader.specs.States.{tok_of, from_of, most_rows}
-use Rattle.html_reader.specs.Taking.{LeadsTo, IsLed, size, IsMemory, Takes, AllBuild, EndRefused}
-use Rattle.html_reader.specs.Keeping.{IsReadable, begin_of}
-use Rattle.html_reader.specs.Pages.{Means, Spells, IsMade, BuildsPage, IsPageFault}
+use Rattle.html_reader.specs.inner.Machine.{State}
+use Rattle.html_reader.specs.inner.States.{tok_of, from_of, most_rows}
+use Rattle.html_reader.specs.inner.Taking.{LeadsTo, IsLed, size, Takes, AllBuild, EndRefused}
+use Rattle.html_reader.specs.inner.Keeping.{IsReadable, begin_of}
+use Rattle.html_reader.specs.Pages.{IsMemory, Means, Spells, IsMade, BuildsPage, IsPageFault}
 use Rattle.html_reader.proofs.KeepLemmas.{written_few, length-kept}
 use Rattle.html_reader.proofs.SpellLemmas.{Lies, lies, moves, spells_none, spells_push}
 use Rattle.html_reader.proofs.FaultLemmas.{tree_fault, markup_fault}

@@ -41,7 +41,7 @@ ltb_lt a b h = grind (arith, nat_tests)
 leb_lt : (a b : ℕ) → leb a b ≡ false → b < a
 leb_lt a b h = grind (arith, nat_tests)
 
--- An attribute and the end of a tag lie where the step begins or behind it, in the text. A refusal has one of the reasons
+-- An attribute and the end of a tag lie where the step begins or after it, in the text. A refusal has one of the reasons
 -- of a page.
 abbrev pub Moves : List ℕ → ℕ → AttrStep → Type 0
 Moves text i (Reads a) = (i ≤ a.name) × (a.name < a.name_to) × (a.name_to ≤ a.to) × (a.to ≤ length text)
@@ -117,7 +117,7 @@ some_tag zero text n l = tag_by text n (attr_at text n) refl (λ a e. absurd (le
 some_tag (suc fuel) text n l =
     tag_by text n (attr_at text n) refl (λ a e. some_tag fuel text a.to (let m = read_moves text n a e in omega (arith, l, m)))
 
--- A token lies behind the place where it begins, in the text. What a start tag has after its name is read to its end.
+-- A token lies after the place where it begins, in the text. What a start tag has after its name is read to its end.
 abbrev pub PartsMove : List ℕ → ℕ → TokenAt → Type 0
 PartsMove text i (Start name_to attrs_to to slash) =
     (i + 1 < name_to) × (name_to ≤ attrs_to) × (attrs_to < to) × (to ≤ length text) × ((attributes : List Attribute) × TagReads text name_to attributes (Closes attrs_to to slash))

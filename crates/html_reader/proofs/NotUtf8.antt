@@ -18,8 +18,8 @@ use Rattle.html_reader.specs.Tables.{is_void, void_names}
 use Rattle.html_reader.specs.Contents.{content}
 use Rattle.html_reader.specs.Places.{base, outside, place_grown, all_rows, Fits, is_some}
 use Rattle.html_reader.specs.Words.{tokens_of, is_shut}
-use Rattle.html_reader.specs.Machine.{State, shuts, is_empty}
-use Rattle.html_reader.specs.Reached.{state_at}
+use Rattle.html_reader.specs.inner.Machine.{State, shuts, is_empty}
+use Rattle.html_reader.specs.inner.Reached.{state_at}
 use Rattle.html_reader.specs.Reading.{Builds}
 use Rattle.html_reader.specs.Pages.{BuildsPage}
 use Rattle.html_reader.proofs.ReadLemmas.{starts_led, builds}

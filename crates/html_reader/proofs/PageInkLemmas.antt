@@ -44,7 +44,7 @@ EndsNext (starts tag ∷ ts) = ⊥
 EndsNext (ends name ∷ ts) = Unit {0}
 EndsNext (holds leaf ∷ ts) = ⊥
 
--- behind the start tag of an element with raw text one text may come, and then an end tag
+-- after the start tag of an element with raw text one text may come, and then an end tag
 abbrev pub RawNext : List ℕ → List Tok → Type 0
 RawNext name [] = Unit {0}
 RawNext name (starts tag ∷ ts) = ⊥
@@ -227,7 +227,7 @@ and_left : (a b : Bool) → (a && b) ≡ false → b ≡ true → a ≡ false
 and_left true b h k = cc
 and_left false b h k = refl
 
--- behind tokens
+-- after tokens
 pub sane_past : (ts us : List Tok) → Sane (ts ++ us) → Sane us
 sane_past [] us h = h
 sane_past (starts tag ∷ ts) us h = sane_past ts us h.2

@@ -12,10 +12,10 @@ use Rattle.html_lexer.specs.Lexing.{Begins}
 use Rattle.html_reader.specs.Tokens.{Tok}
 use Rattle.html_reader.specs.Forest.{nothing}
 use Rattle.html_reader.specs.Places.{outside}
-use Rattle.html_reader.specs.Machine.{State, step, shuts, is_empty}
-use Rattle.html_reader.specs.Reached.{state_at}
+use Rattle.html_reader.specs.inner.Machine.{State, step, shuts, is_empty}
+use Rattle.html_reader.specs.inner.Reached.{state_at}
 use Rattle.html_reader.specs.Reading.{Builds, is_fragment}
-use Rattle.html_reader.specs.Taking.{LeadsTo}
+use Rattle.html_reader.specs.inner.Taking.{LeadsTo}
 use Rattle.html_reader.specs.Pages.{Means, Spells, Whole, IsMade, BuildsPage}
 use Rattle.html_reader.specs.PageLaws.{PageAnswer}
 use Rattle.html_reader.proofs.MoveLemmas.{some_step}

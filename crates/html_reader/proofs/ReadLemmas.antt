@@ -11,11 +11,11 @@ use Rattle.html_reader.specs.Places.{outside, place_marks, all_rows, Fits, Grown
 use Rattle.html_reader.specs.declared.reader.Root.{Root}
 use Rattle.html_reader.specs.Rows.{text_rows}
 use Rattle.html_reader.specs.Words.{is_shut}
-use Rattle.html_reader.specs.Machine.{State, state, step, shuts, after_shuts, closing, is_empty}
+use Rattle.html_reader.specs.inner.Machine.{State, state, step, shuts, after_shuts, closing, is_empty}
 use Rattle.html_reader.specs.Reading.{Builds, Refuses}
-use Rattle.html_reader.specs.Reached.{IsReached, IsSome, state_at}
-use Rattle.html_reader.specs.States.{IsSound, made_count, tok_of, Steps}
-use Rattle.html_reader.specs.Taking.{LeadsTo, IsLed, size, Takes}
+use Rattle.html_reader.specs.inner.Reached.{IsReached, IsSome, state_at}
+use Rattle.html_reader.specs.inner.States.{IsSound, made_count, tok_of, Steps}
+use Rattle.html_reader.specs.inner.Taking.{LeadsTo, IsLed, size, Takes}
 use Rattle.html_reader.specs.declared.token.Token.{Token}
 use Rattle.text_base.specs.declared.reasons.PageFault.{PageFault}
 use Rattle.html_reader.proofs.RoomLemmas.{step_room, step_made}

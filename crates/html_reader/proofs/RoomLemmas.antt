@@ -6,11 +6,11 @@ use Rattle.text_base.specs.declared.reasons.PageReason.TheVariants.{StrayEnd, Se
 use Rattle.html_reader.specs.Tokens.{Tag, Leaf, text, comment, doctype, Tok, starts, ends, holds}
 use Rattle.html_reader.specs.Rows.{flushed, text_rows, row_of_comment, row_of_attribute, tag_rows}
 use Rattle.doc_model.specs.Growing.{innermost}
-use Rattle.html_reader.specs.Machine.{State, step, opened, held, closed, is_named, is_empty, without_first}
+use Rattle.html_reader.specs.inner.Machine.{State, step, opened, held, closed, is_innermost, is_empty, without_first}
 use Rattle.html_reader.specs.Forest.{is_white_leaf}
 use Rattle.html_reader.specs.Places.{most_open}
-use Rattle.html_reader.specs.States.{most_rows}
-use Rattle.html_reader.specs.Taking.{size}
+use Rattle.html_reader.specs.inner.States.{most_rows}
+use Rattle.html_reader.specs.inner.Taking.{size}
 use Rattle.html_reader.proofs.StepLemmas.{guard_ok, same_ok}
 
 few : (p : ℕ) (waits : List ℕ) → length (text_rows p waits) ≤ 1
@@ -50,7 +50,7 @@ step_room s (starts tag) new h =
     let free = guard_ok (not s.rooted.made && (is_empty s.tags && s.rooted.some)) SecondRoot (cond (eqb (length s.tags) (most_open s.rooted.made)) (Err Deep) (Ok (opened s tag))) new h in
     let room = guard_ok (eqb (length s.tags) (most_open s.rooted.made)) Deep (Ok (opened s tag)) new free.1 in
     subst (λ n. size n ≤ size s + (2 + length tag.attrs) + 1) (same_ok (opened s tag) new room.1) (open_room s tag)
-step_room s (ends name) new h = end_room s new (is_named s.tags name) h
+step_room s (ends name) new h = end_room s new (is_innermost s.tags name) h
 step_room s (holds leaf) new h =
     let free = guard_ok (not s.rooted.made && (is_empty s.tags && not (is_white_leaf leaf))) TextOutside (Ok (held s leaf)) new h in
     subst (λ n. size n ≤ size s + 2 + 1) (same_ok (held s leaf) new free.1) (leaf_room s leaf)
@@ -61,7 +61,7 @@ step_made s (starts tag) new h =
     let free = guard_ok (not s.rooted.made && (is_empty s.tags && s.rooted.some)) SecondRoot (cond (eqb (length s.tags) (most_open s.rooted.made)) (Err Deep) (Ok (opened s tag))) new h in
     let room = guard_ok (eqb (length s.tags) (most_open s.rooted.made)) Deep (Ok (opened s tag)) new free.1 in
     ap (λ (x : State). x.rooted.made) (sym (same_ok (opened s tag) new room.1))
-step_made s (ends name) new h = by_name (is_named s.tags name) h
+step_made s (ends name) new h = by_name (is_innermost s.tags name) h
   where
     by_name : (named : Bool) → cond named (Ok (closed s)) (Err StrayEnd) ≡ Ok new → new.rooted.made ≡ s.rooted.made
     by_name true h = ap (λ (x : State). x.rooted.made) (sym (same_ok (closed s) new h))

@@ -4,7 +4,7 @@ use Rattle.html_reader.specs.Tokens.{Tag, Leaf}
 use Rattle.html_reader.specs.Forest.{Forest, nothing, then_leaf, then_element}
 use Rattle.html_reader.specs.Rows.{Sofar, with_leaf, grown}
 use Rattle.html_reader.specs.Places.{Place, outside, within, base, place_grown, below, with_piece}
-use Rattle.html_reader.specs.Machine.{holding, closing}
+use Rattle.html_reader.specs.inner.Machine.{holding, closing}
 use Rattle.html_reader.proofs.PlaceLemmas.{append, add, lone}
 
 pub grown-append : (p : ℕ) (s : Sofar) (f g : Forest) → grown p s (append f g) ≡ grown p (grown p s f) g

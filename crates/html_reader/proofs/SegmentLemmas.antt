@@ -39,7 +39,7 @@ one_text (suc p) c cs l = refl
 flush_none : (p : ℕ) (was : List Row) → flushed p (sofar was []) ≡ was
 flush_none p was = ap (λ t. was ++ t) (no_text p) ∙ append-nil was
 
--- the rows behind an element
+-- the rows after an element
 abbrev pub element_then : ℕ → Tag → Forest → Forest → List Row → ℕ → List Row
 element_then p tag inside r x k = flushed p (grown p (sofar (flushed k (grown k (sofar (x ++ tag_rows p k tag) []) inside)) []) r)
 
@@ -54,7 +54,7 @@ tidy_rows p n was (then_leaf (text (c ∷ cs)) rest) some in_n e h =
     same : flushed p (sofar was (c ∷ cs)) ≡ flushed p (sofar (was ++ row_of_text p (c ∷ cs) ∷ []) [])
     same = ap (λ t. was ++ t) (one_text p c cs some) ∙ sym (flush_none p (was ++ row_of_text p (c ∷ cs) ∷ []))
 
-    -- behind a text comes no text, so it has its row at once
+    -- after a text comes no text, so it has its row at once
     waits : (g : Forest) → NotText g → flushed p (grown p (sofar (was ++ row_of_text p (c ∷ cs) ∷ []) []) g) ≡ (was ++ row_of_text p (c ∷ cs) ∷ []) ++ rows_at p (n + 1) g
         → flushed p (grown p (sofar was (c ∷ cs)) g) ≡ (was ++ row_of_text p (c ∷ cs) ∷ []) ++ rows_at p (n + 1) g
     waits nothing k later = same ∙ later
@@ -89,7 +89,7 @@ range_append a (suc m) n =
     ap (range_with_len a) (let e : suc m + n ≡ suc (m + n) = omega arith in e)
     ∙ ap (λ r. a ∷ r) (range_append (a + 1) m n ∙ ap (λ k. range_with_len (a + 1) m ++ range_with_len k n) (let e : a + 1 + m ≡ a + suc m = omega arith in e))
 
--- what passes among all rows stands in a part of them, where none passes before and behind it
+-- what passes among all rows stands in a part of them, where none passes before and after it
 pub found_in : (p : ℕ → Bool) (a m n : ℕ) → ((y : ℕ) → y < a → p y ≡ false) → ((y : ℕ) → a + m ≤ y → y < n → p y ≡ false) → a + m ≤ n → filter p (range_with_len 0 n) ≡ filter p (range_with_len a m)
 found_in p a m n before behind l =
     ap (λ k. filter p (range_with_len 0 k)) (let e : n ≡ a + (m + (n - (a + m))) = omega arith in e)

@@ -4,13 +4,13 @@ use Rattle.html_reader.specs.Tokens.{Tok}
 use Rattle.html_reader.specs.Rows.{text_rows}
 use Rattle.html_reader.specs.Places.{Place, outside, within, open_tags, place_grown, Grown}
 use Rattle.doc_model.specs.Growing.{innermost}
-use Rattle.html_reader.specs.Machine.{State, shuts}
-use Rattle.html_reader.specs.States.{IsSound, made_count}
+use Rattle.html_reader.specs.inner.Machine.{State, shuts}
+use Rattle.html_reader.specs.inner.States.{IsSound, made_count}
 use Rattle.html_reader.specs.declared.reader.Root.{Root}
 use Rattle.html_reader.proofs.CalmLemmas.{place_calm, length-flushed}
-use Rattle.html_reader.specs.Reached.{state_at, IsReached}
+use Rattle.html_reader.specs.inner.Reached.{state_at, IsReached}
 use Rattle.html_reader.specs.Words.{is_shut}
-use Rattle.html_reader.specs.Machine.{closed, after_shuts, state, without_first}
+use Rattle.html_reader.specs.inner.Machine.{closed, after_shuts, state, without_first}
 use Rattle.html_reader.specs.Tokens.{Tag}
 use Rattle.std.proofs.Common.{Option}
 use Rattle.html_reader.proofs.StepLemmas.{reach_shut}

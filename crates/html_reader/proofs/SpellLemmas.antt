@@ -29,8 +29,8 @@ one_meaning before (text_tok from to raw refs) t u h k = h ∙ sym k
 one_meaning before (comment_tok from to body) t u h k = h ∙ sym k
 one_meaning before (doctype_tok from to) t u h k = h ∙ sym k
 
--- A token lies behind the place where it begins, in the page. The name of a start tag is not empty, and what stands
--- behind it is shorter than the token.
+-- A token lies after the place where it begins, in the page. The name of a start tag is not empty, and what stands
+-- after it is shorter than the token.
 abbrev pub Lies : List ℕ → ℕ → Lexed → Type 0
 Lies page i (start_tok from to name attrs slash) = (from ≡ i) × (i < to) × (to ≤ length page) × (0 < length name) × (i + length attrs < to)
 Lies page i (end_tok from to name) = (from ≡ i) × (i < to) × (to ≤ length page)

@@ -6,8 +6,8 @@ use Rattle.html_reader.specs.Tokens.{Tok, token}
 use Rattle.html_reader.specs.Places.{Place, place_marks, open_tags, is_some, root_at}
 use Rattle.html_reader.specs.Words.{tokens_of, IsFull}
 use Rattle.html_reader.specs.Reading.{Leads, Refuses, RefusesNext, Builds}
-use Rattle.html_reader.specs.Machine.{State}
-use Rattle.html_reader.specs.Taking.{LeadsTo}
+use Rattle.html_reader.specs.inner.Machine.{State}
+use Rattle.html_reader.specs.inner.Taking.{LeadsTo}
 use Rattle.html_reader.specs.Pages.{IsRefused}
 use Rattle.html_reader.proofs.PlaceLemmas.{puts, start, puts_place, one_place}
 use Rattle.html_reader.proofs.WordLemmas.{first, Rest, front_is, there, went}

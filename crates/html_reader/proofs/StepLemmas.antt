@@ -9,9 +9,9 @@ use Rattle.html_reader.specs.Forest.{Forest, nothing, then_leaf, width, is_white
 use Rattle.html_reader.specs.Places.{Place, outside, within, place_marks, open_tags, is_some, root_at, most_open, IsRootPiece, CanStart, Fits, Grown}
 use Rattle.html_reader.specs.declared.reader.Root.{Root}
 use Rattle.html_reader.specs.Words.{tokens_of, next_token, begins_shut, is_shut, IsFull}
-use Rattle.html_reader.specs.Machine.{State, state, after_leaf, step, opened, held, closed, closing, is_named, is_empty, after_shuts}
+use Rattle.html_reader.specs.inner.Machine.{State, state, after_leaf, step, opened, held, closed, closing, is_innermost, is_empty, after_shuts}
 use Rattle.html_reader.specs.Reading.{Leads, Refuses, RefusesNext, Strays}
-use Rattle.html_reader.specs.Reached.{state_at, IsSome, IsPart, Reached}
+use Rattle.html_reader.specs.inner.Reached.{state_at, IsSome, IsPart, Reached}
 use Rattle.html_reader.proofs.PlaceLemmas.{append, add, lone, put, put_marks, one_place}
 use Rattle.html_reader.proofs.RowLemmas.{leaf_grown, close_grown}
 use Rattle.html_reader.proofs.FitLemmas.{depth-append, width-append, white-append, both_true}
@@ -119,7 +119,7 @@ same_ok x y e = cc
 eq_true : (a b : ℕ) → a ≡ b → eqb a b ≡ true
 eq_true a b e = grind arith
 
-goes_end : (made : Bool) (p : Place) (name : List ℕ) (s : State) → Fits made p → (named : Bool) → is_named (open_tags p) name ≡ named → cond named (Ok (closed (state_at made p))) (Err StrayEnd) ≡ Ok s → Goes made p (token (ends name)) s
+goes_end : (made : Bool) (p : Place) (name : List ℕ) (s : State) → Fits made p → (named : Bool) → is_innermost (open_tags p) name ≡ named → cond named (Ok (closed (state_at made p))) (Err StrayEnd) ≡ Ok s → Goes made p (token (ends name)) s
 goes_end made (outside piece) name s fits true is h = cc
 goes_end made (within before tag piece) name s fits true is h =
     record {
@@ -163,7 +163,7 @@ no_tags (t ∷ ts) h = cc
 reason_is : (tags : List Tag) (rooted : Root) (next : Option Tok) (e d : PageReason) → e ≡ d → RefusesNext tags rooted next e → RefusesNext tags rooted next d
 reason_is tags rooted next e d is h = subst (RefusesNext tags rooted next) is h
 
-strays : (tags : List Tag) (name : List ℕ) → is_named tags name ≡ false → Strays tags name
+strays : (tags : List Tag) (name : List ℕ) → is_innermost tags name ≡ false → Strays tags name
 strays [] name h = tt
 strays (tag ∷ before) name h = λ e. true_false ((bytes_eq-Decides tag.name name).1 e) h
   where

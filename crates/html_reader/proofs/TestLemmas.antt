@@ -7,9 +7,9 @@ use Rattle.html_reader.specs.Words.{is_shut, ends_at}
 use Rattle.std.specs.Str.{bytes_eq}
 use Rattle.html_reader.specs.declared.token.StartTag.{StartTag}
 use Rattle.html_reader.specs.Tokens.{Tag, Tok}
-use Rattle.html_reader.specs.Pieces.{owned_bytes}
-use Rattle.html_reader.specs.Machine.{is_empty, is_named}
-use Rattle.html_reader.specs.States.{tag_of, tags_onto, is_foreign_tag, is_single_last}
+use Rattle.html_reader.specs.inner.Pieces.{owned_bytes}
+use Rattle.html_reader.specs.inner.Machine.{is_empty, is_innermost}
+use Rattle.html_reader.specs.inner.States.{tag_of, tags_onto, is_foreign_tag, is_single_last}
 use Rattle.html_reader.proofs.AttrLemmas.{length-tags}
 
 empty_onto : (t : Tag) (tags : List Tag) (items : List StartTag) → is_empty (tags_onto (t ∷ tags) items) ≡ false
@@ -26,18 +26,18 @@ none items n e = ap (λ m. eqb m 0) e ∙ empty_tags items
 pub deep : (items : List StartTag) (n k m : ℕ) → n ≡ length items → k ≡ m → eqb n k ≡ eqb (length (tags_onto [] items)) m
 deep items n k m e f = ap (λ x. eqb x k) (e ∙ omega (arith, length-tags [] items)) ∙ ap (λ x. eqb (length (tags_onto [] items)) x) f
 
-pub some_named : (items : List StartTag) (name : List ℕ) → is_named (tags_onto [] items) name ≡ true → 0 < length items
+pub some_named : (items : List StartTag) (name : List ℕ) → is_innermost (tags_onto [] items) name ≡ true → 0 < length items
 some_named [] name h = cc
 some_named (x ∷ items) name h = omega arith
 
-named_onto : (tags : List Tag) (x : StartTag) (items : List StartTag) (t : StartTag) (name : List ℕ) → slice_get (x ∷ items) (length items) ≡ Some t → is_named (tags_onto tags (x ∷ items)) name ≡ bytes_eq (owned_bytes t.name) name
+named_onto : (tags : List Tag) (x : StartTag) (items : List StartTag) (t : StartTag) (name : List ℕ) → slice_get (x ∷ items) (length items) ≡ Some t → is_innermost (tags_onto tags (x ∷ items)) name ≡ bytes_eq (owned_bytes t.name) name
 named_onto tags x [] t name h = ap (λ (y : StartTag). bytes_eq (owned_bytes y.name) name) (some_same h)
   where
     some_same : {a b : StartTag} → Some a ≡ Some b → a ≡ b
     some_same e = cc
 named_onto tags x (y ∷ items) t name h = named_onto (tag_of x ∷ tags) y items t name h
 
-pub named_last : (items : List StartTag) (t : StartTag) (name : List ℕ) → slice_get items (length items - 1) ≡ Some t → is_named (tags_onto [] items) name ≡ bytes_eq (owned_bytes t.name) name
+pub named_last : (items : List StartTag) (t : StartTag) (name : List ℕ) → slice_get items (length items - 1) ≡ Some t → is_innermost (tags_onto [] items) name ≡ bytes_eq (owned_bytes t.name) name
 named_last [] t name h = cc
 named_last (x ∷ items) t name h = named_onto [] x items t name (ap (slice_get (x ∷ items)) (omega arith) ∙ h)
 

@@ -1,6 +1,7 @@
 -- What the tree takes of a token as it is written: names in ASCII lower case, the attributes that are kept, contents.
-use Rattle.std.specs.Prelude.{ℕ, ◌==◌, Bool, List, [], ◌∷◌, codes, if◌then◌else◌}
+use Rattle.std.specs.Prelude.{ℕ, ◌==◌, Bool, List, [], ◌∷◌, if◌then◌else◌}
 use Rattle.std.specs.Str.{bytes_eq, str_to_ascii_lowercase}
+unfoldable pub use Rattle.html_lexer.specs.Names.{newline_names}
 use Rattle.char_refs.specs.References.{decoded}
 use Rattle.html_reader.specs.Tokens.{Attr}
 use Rattle.html_reader.specs.Tables.{is_one_of}
@@ -16,10 +17,6 @@ abbrev pub kept : List (List ℕ × List ℕ) → List Attr
 kept [] = []
 kept (p ∷ written) =
     record { name = str_to_ascii_lowercase p.0; value = decoded p.1 } ∷ without (str_to_ascii_lowercase p.0) (kept written)
-
--- elements whose content may begin with a newline that does not count (HTML, section 13.1.2.5)
-unfoldable pub newline_names : List (List ℕ)
-newline_names = codes "pre" ∷ codes "textarea" ∷ codes "listing" ∷ []
 
 -- a start tag of this name takes a first newline; a token that is no start tag has the name []
 abbrev pub takes_newline : List ℕ → Bool

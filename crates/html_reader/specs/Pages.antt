@@ -1,7 +1,9 @@
 -- The document that a page builds, and the fault for which it is refused.
 use Rattle.std.specs.Prelude.{◌≡◌, ℕ, ◌≤◌, Bool, List, [], ◌∷◌, length, Option, Some, None, ◌⊎◌}
 use Rattle.std.specs.Str.{str_to_ascii_lowercase}
+use Rattle.text_base.specs.declared.reasons.PageFault.{PageFault}
 use Rattle.text_base.specs.declared.reasons.PageReason.{PageReason}
+use Rattle.text_base.specs.declared.reasons.PageReason.TheVariants.{Memory}
 use Rattle.doc_model.specs.Document.{Document}
 use Rattle.html_lexer.specs.Tokens.{Tok as Lexed, start_tok, end_tok, text_tok, comment_tok, doctype_tok, name_after, last_name}
 use Rattle.html_lexer.specs.Lexing.{Begins, Lexes, LexFault}
@@ -13,6 +15,10 @@ use Rattle.html_reader.specs.Words.{tokens_of, IsFull}
 use Rattle.html_reader.specs.Reading.{Builds, RefusesNext, is_fragment}
 use Rattle.html_lexer.specs.Steps.{StepAt}
 use Rattle.html_lexer.specs.declared.steps.Step.TheVariants.{Fails}
+
+-- no memory was found
+abbrev pub IsMemory : PageFault → Type 0
+IsMemory fault = (fault.reason ≡ Memory) × (fault.at ≡ 0)
 
 -- What the tree takes of a token, as the page writes it. `before` is the name of the start tag directly before it, and
 -- [] where no start tag stands there.
@@ -43,7 +49,7 @@ pub record BuildsPage (page : List ℕ) (doc : Document) : Type 0 where
   pub spelled : Spells page (length page) tokens
   pub builds : Builds (is_fragment tokens) tokens doc
 
--- what stands behind the tokens of a page: nothing, or markup that is refused
+-- what stands after the tokens of a page: nothing, or markup that is refused
 abbrev pub Stops : List ℕ → List ℕ → ℕ → Type 0
 Stops page before at = (at ≡ length page) ⊎ ((reason : PageReason) × StepAt page before at (Fails reason))
 

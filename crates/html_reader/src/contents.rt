@@ -3,7 +3,7 @@ ghost use Rattle.std.specs.Prelude.{◌≡◌, ◌==◌, not, IfOk, if◌then◌
 ghost use Rattle.std.specs.List.{list_all, list_any};
 ghost use Rattle.std.specs.Char.{is_ascii_uppercase};
 ghost use Rattle.std.specs.Str.{str_to_ascii_lowercase};
-ghost use Rattle.html_reader.specs.Pieces.{owned_bytes};
+ghost use Rattle.html_reader.specs.inner.Pieces.{owned_bytes};
 ghost use Rattle.html_reader.specs.Contents.{without_newline, meant};
 
 use crate::owned::Owned;

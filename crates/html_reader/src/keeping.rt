@@ -3,10 +3,10 @@ ghost use Rattle.std.specs.Prelude.{◌≡◌, ◌≢◌, ◌+◌, ◌<◌, [], 
 ghost use Rattle.std.specs.BTreeSet.{contains_text};
 ghost use Rattle.html_lexer.specs.Attributes.{IsAttrs};
 ghost use Rattle.char_refs.specs.References.{decoded};
-ghost use Rattle.html_reader.specs.Pieces.{owned_bytes};
-ghost use Rattle.html_reader.specs.States.{attr_of};
-ghost use Rattle.html_reader.specs.Kept.{AreKept};
-ghost use Rattle.html_reader.specs.Keeping.{has_name, HaveTexts, Knows, Keeps};
+ghost use Rattle.html_reader.specs.inner.Pieces.{owned_bytes};
+ghost use Rattle.html_reader.specs.inner.States.{attr_of};
+ghost use Rattle.html_reader.specs.inner.Kept.{AreKept};
+ghost use Rattle.html_reader.specs.inner.Keeping.{has_name, HaveTexts, Knows, Keeps};
 
 use crate::contents::{lower_name, meant};
 use crate::owned::Owned;

@@ -2,7 +2,7 @@
 ghost use Rattle.std.specs.Prelude.{◌≡◌, ◌≢◌, ◌++◌, [], OnOk, string_bytes};
 ghost use Rattle.std.specs.Str.{chars};
 ghost use Rattle.doc_model.specs.Pieces.{piece_text};
-ghost use Rattle.html_reader.specs.Pieces.{owned_bytes};
+ghost use Rattle.html_reader.specs.inner.Pieces.{owned_bytes};
 
 use doc_model::Piece;
 use std::alloc::Global;

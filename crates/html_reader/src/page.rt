@@ -2,12 +2,12 @@
 ghost use Rattle.std.specs.Prelude.{◌≡◌, ◌≤◌, [], ◌⊎◌, length, codes, IfOk, IfErr};
 ghost use Rattle.doc_model.specs.Growing.{fresh};
 ghost use Rattle.std.specs.Str.{str_eq_ignore_ascii_case};
-ghost use Rattle.html_reader.specs.Taking.{IsMemory, LeadsTo, size};
-ghost use Rattle.html_reader.specs.Pieces.{owned_bytes};
-ghost use Rattle.html_reader.specs.States.{the_state};
-ghost use Rattle.html_reader.specs.Pages.{BuildsPage, IsPageFault, IsMade};
+ghost use Rattle.html_reader.specs.inner.Taking.{LeadsTo, size};
+ghost use Rattle.html_reader.specs.inner.Pieces.{owned_bytes};
+ghost use Rattle.html_reader.specs.inner.States.{the_state};
+ghost use Rattle.html_reader.specs.Pages.{BuildsPage, IsMemory, IsPageFault, IsMade};
 
-use crate::meaning::{is_start, name_after, token_of};
+use crate::meaning::{is_start, token_of};
 use crate::reader::Reader;
 use doc_model::Grow;
 use html_lexer::Lexer;
@@ -39,7 +39,7 @@ fn gets_root(text: &str) -> bool
         match lexer.next() {
             Ok(Some(token)) => {
                 if is_start(token) {
-                    return !is_html(name_after(token));
+                    return !is_html(token.name_after());
                 }
             }
             Ok(None) => return true,
@@ -75,7 +75,7 @@ fn read_tokens<'p, G: Grow<'p> + Drop>(
                     }
                     Err(_) => return Err(no_memory()),
                 }
-                before = name_after(token);
+                before = token.name_after();
             }
             Ok(None) => return reader.finish(text.len()),
             Err(fault) => return Err(fault),

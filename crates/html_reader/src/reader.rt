@@ -5,15 +5,15 @@ ghost use Rattle.std.specs.Vec.{vec_len};
 ghost use Rattle.html_reader.specs.Rows.{row_of_attribute, row_of_element};
 ghost use Rattle.html_reader.specs.Places.{below, base, most_open, all_rows};
 ghost use Rattle.doc_model.specs.Growing.{innermost};
-ghost use Rattle.html_reader.specs.Machine.{state, settled, held, opened, closed, shuts, is_empty, is_named, after_leaf};
-ghost use Rattle.html_reader.specs.Reached.{IsReached};
-ghost use Rattle.html_reader.specs.Taking.{LeadsTo, IsLed, Takes, AllBuild, EndRefused, size};
+ghost use Rattle.html_reader.specs.inner.Machine.{state, settled, held, opened, closed, shuts, is_empty, is_innermost, after_leaf};
+ghost use Rattle.html_reader.specs.inner.Reached.{IsReached};
+ghost use Rattle.html_reader.specs.inner.Taking.{LeadsTo, IsLed, Takes, AllBuild, EndRefused, size};
 ghost use Rattle.doc_model.specs.Growing.{fresh as root_alone};
-ghost use Rattle.html_reader.specs.Kept.{AreKept, EndsInElement};
-ghost use Rattle.html_reader.specs.Pieces.{owned_bytes};
+ghost use Rattle.html_reader.specs.inner.Kept.{AreKept, EndsInElement};
+ghost use Rattle.html_reader.specs.inner.Pieces.{owned_bytes};
 ghost use Rattle.doc_model.specs.Growing.{growing};
-ghost use Rattle.html_reader.specs.States.{the_state, tags_onto, grown_of, attr_of, tag_of, tok_of, next_of, is_foreign_tag, is_single_last, most_rows, Steps, IsSound, IsKept};
-ghost use Rattle.html_reader.specs.Forest.{is_space};
+ghost use Rattle.html_reader.specs.inner.States.{the_state, tags_onto, grown_of, attr_of, tag_of, tok_of, next_of, is_foreign_tag, is_single_last, most_rows, Steps, IsSound, HasKeptAttributes};
+ghost use Rattle.text_base.specs.Text.{is_space5};
 ghost use Rattle.std.specs.List.{list_all, list_any};
 ghost use Rattle.html_reader.specs.Words.{is_shut, ends_at};
 ghost use Rattle.html_reader.specs.Tokens.{starts, comment, text};
@@ -23,7 +23,7 @@ use crate::tables::start_ends;
 use crate::token::{Attr, StartTag, Token};
 use doc_model::{Grow, Piece};
 use std::alloc::Global;
-use text_base::{NoMemory, PageFault, PageReason};
+use text_base::{NoMemory, PageFault, PageReason, is_white};
 
 /// What is known of the root element of a page.
 #[derive(Clone, Copy, Debug, PartialEq, Eq)]
@@ -85,13 +85,9 @@ fn push_attrs<'p, G: Grow<'p>>(grow: &mut G, attrs: &[Attr<'p>]) -> Result<(), N
 }
 
 fn is_blank(text: &str) -> bool
-    ensures { result ≡ list_all is_space text.now }
+    ensures { result ≡ list_all is_space5 text.now }
 {
-    text.as_bytes().iter().all(|b| *b == b' '
-        || *b == b'\t'
-        || *b == b'\n'
-        || *b == b'\r'
-        || *b == 12)
+    text.as_bytes().iter().all(|b| is_white(*b))
 }
 
 fn fault(reason: PageReason, at: usize) -> PageFault
@@ -181,7 +177,7 @@ impl<'p, G: Grow<'p> + Drop> Reader<'p, G> {
     /// Begins an element.
     fn start(&mut self, tag: StartTag<'p>) -> Result<(), NoMemory>
         requires sound { IsSound (the_state self.old.tags.items self.old.rooted (G.growing self.old.grow) (owned_bytes self.old.waits)) }
-        requires kept { IsKept (starts (tag_of tag)) }
+        requires kept { HasKeptAttributes (starts (tag_of tag)) }
         requires room { length (G.growing self.old.grow).rows + 2 + length tag.attrs.items < 2 ^ 32 }
         ensures { OnOk result (the_state self.new.tags.items self.new.rooted (G.growing self.new.grow) (owned_bytes self.new.waits)
             ≡ opened (the_state self.old.tags.items self.old.rooted (G.growing self.old.grow) (owned_bytes self.old.waits)) (tag_of tag.entry)) }
@@ -235,7 +231,7 @@ impl<'p, G: Grow<'p> + Drop> Reader<'p, G> {
         Ok(())
     }
 
-    /// Lets a text wait behind those that wait already.
+    /// Lets a text wait after those that wait already.
     fn wait(&mut self, content: Owned<'p>) -> Result<(), NoMemory>
         ensures waits { OnOk result (owned_bytes self.new.waits ≡ owned_bytes self.old.waits ++ owned_bytes content.entry) }
         ensures tags { self.new.tags ≡ self.old.tags }
@@ -276,14 +272,14 @@ impl<'p, G: Grow<'p> + Drop> Reader<'p, G> {
 
     /// Tells whether a text may not stand here.
     fn is_outside(&self, content: &str) -> bool
-        ensures { result ≡ (not self.now.rooted.made && (is_empty (tags_onto [] self.now.tags.items) && not (list_all is_space content.now))) }
+        ensures { result ≡ (not self.now.rooted.made && (is_empty (tags_onto [] self.now.tags.items) && not (list_all is_space5 content.now))) }
     {
         !self.rooted.made && self.has_none() && !is_blank(content)
     }
 
     /// Tells whether the innermost open element has the name.
     fn is_innermost(&self, name: &str) -> bool
-        ensures { result ≡ is_named (tags_onto [] self.now.tags.items) name.now }
+        ensures { result ≡ is_innermost (tags_onto [] self.now.tags.items) name.now }
     {
         match self.tags.last() {
             None => false,
@@ -318,7 +314,7 @@ impl<'p, G: Grow<'p> + Drop> Reader<'p, G> {
     #[tactic(auto, using(crate::proofs::TestLemmas::some_named))]
     fn step(&mut self, token: Token<'p>) -> Result<(), PageFault>
         requires sound { IsSound (the_state self.old.tags.items self.old.rooted (G.growing self.old.grow) (owned_bytes self.old.waits)) }
-        requires kept { IsKept (tok_of token) }
+        requires kept { HasKeptAttributes (tok_of token) }
         requires room { length (G.growing self.old.grow).rows + most_rows (tok_of token) < 2 ^ 32 }
         ensures { Steps (the_state self.old.tags.items self.old.rooted (G.growing self.old.grow) (owned_bytes self.old.waits)) token.entry result
             (the_state self.new.tags.items self.new.rooted (G.growing self.new.grow) (owned_bytes self.new.waits)) }
@@ -384,7 +380,7 @@ impl<'p, G: Grow<'p> + Drop> Reader<'p, G> {
     /// Reads the next token.
     pub fn take(&mut self, token: Token<'p>) -> Result<(), PageFault>
         requires led { IsLed (the_state self.old.tags.items self.old.rooted (G.growing self.old.grow) (owned_bytes self.old.waits)) }
-        requires kept { IsKept (tok_of token) }
+        requires kept { HasKeptAttributes (tok_of token) }
         requires room { size (the_state self.old.tags.items self.old.rooted (G.growing self.old.grow) (owned_bytes self.old.waits)) + most_rows (tok_of token) + 1 < 2 ^ 32 }
         ensures { Takes (the_state self.old.tags.items self.old.rooted (G.growing self.old.grow) (owned_bytes self.old.waits)) token.entry result (the_state self.new.tags.items self.new.rooted (G.growing self.new.grow) (owned_bytes self.new.waits)) }
     {

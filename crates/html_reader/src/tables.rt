@@ -2,14 +2,10 @@
 ghost use Rattle.std.specs.Prelude.{◌≡◌, map, not, true};
 ghost use Rattle.html_reader.specs.Tables.{is_one_of, is_void, is_foreign, may_omit_end, start_ends, head_names, is_listed, are_apart};
 ghost use Rattle.html_reader.specs.Tokens.{texts};
-ghost use Rattle.html_reader.specs.Views.{ending_of};
+ghost use Rattle.html_reader.specs.inner.Views.{ending_of};
 
+use html_lexer::void_names;
 use text_base::is_same;
-
-static VOID: [&str; 14] = [
-    "area", "base", "br", "col", "embed", "hr", "img", "input", "link", "meta", "param", "source",
-    "track", "wbr",
-];
 
 fn is_one_of(names: &[&str], name: &str) -> bool
     ensures { result ≡ is_one_of (texts names.now) name.now }
@@ -26,7 +22,7 @@ fn is_one_of(names: &[&str], name: &str) -> bool
 pub fn is_void(name: &str) -> bool
     ensures { result ≡ is_void name.now }
 {
-    name.len() >= 2 && name.len() <= 6 && is_one_of(&VOID, name)
+    name.len() >= 2 && name.len() <= 6 && is_one_of(void_names(), name)
 }
 
 static FOREIGN: [&str; 2] = ["svg", "math"];

@@ -1,6 +1,6 @@
 //! Tokens of a page, as its tree takes them.
 ghost use Rattle.std.specs.Prelude.{◌≡◌};
-ghost use Rattle.html_reader.specs.Pieces.{owned_bytes};
+ghost use Rattle.html_reader.specs.inner.Pieces.{owned_bytes};
 ghost use Rattle.html_reader.specs.Tables.{is_void, may_omit_end, is_foreign};
 
 use crate::owned::Owned;

@@ -1,6 +1,6 @@
 use Rattle.std.specs.Prelude.{◌≡◌, drop, map}
-use Rattle.html_reader.specs.States.{attr_of}
-use Rattle.html_reader.specs.Keeping.{has_name}
+use Rattle.html_reader.specs.inner.States.{attr_of}
+use Rattle.html_reader.specs.inner.Keeping.{has_name}
 use Rattle.html_reader.proofs.keeping.any_named.Given as goal
 
 abbrev pub invariant-loop-attr : goal.invariant-loop-attr

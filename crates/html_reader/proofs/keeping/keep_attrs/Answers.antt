@@ -4,8 +4,8 @@ use Rattle.html_lexer.specs.State.{AttrReading}
 use Rattle.html_lexer.specs.Attributes.{IsLast, pair_at}
 use Rattle.html_lexer.specs.Tags.{attr_at}
 use Rattle.html_lexer.specs.declared.tags.AttrStep.TheVariants.{Reads}
-use Rattle.html_reader.specs.States.{attr_of}
-use Rattle.html_reader.specs.Keeping.{HasKept, Keeps}
+use Rattle.html_reader.specs.inner.States.{attr_of}
+use Rattle.html_reader.specs.inner.Keeping.{HasKept, Keeps}
 use Rattle.html_reader.specs.Tokens.{Attr}
 use Rattle.html_reader.proofs.KeepLemmas.{with_kept, more_kept, all_kept, keeps_kept}
 use Rattle.html_reader.proofs.keeping.keep_attrs.Goals as goal

@@ -1,7 +1,7 @@
 use Rattle.std.specs.Prelude.{◌≡◌, ◌-◌, length, map}
 use Rattle.std.specs.BTreeSet.{contains_text}
-use Rattle.html_reader.specs.States.{attr_of}
-use Rattle.html_reader.specs.Keeping.{Knows, HasKept}
+use Rattle.html_reader.specs.inner.States.{attr_of}
+use Rattle.html_reader.specs.inner.Keeping.{Knows, HasKept}
 use Rattle.html_reader.proofs.keeping.keep_attrs.Given as goal
 
 abbrev pub invariant-loop-name : goal.invariant-loop-name

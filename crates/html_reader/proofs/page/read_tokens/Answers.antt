@@ -3,8 +3,8 @@ use Rattle.std.specs.Prelude.{Option}
 use Rattle.html_lexer.specs.Tokens.{view}
 use Rattle.html_lexer.specs.Lexing.{GivesToken, IsNext}
 use Rattle.html_lexer.specs.declared.lexer.Token.{Token}
-use Rattle.html_reader.specs.Pieces.{owned_bytes}
-use Rattle.html_reader.specs.States.{the_state, tok_of}
+use Rattle.html_reader.specs.inner.Pieces.{owned_bytes}
+use Rattle.html_reader.specs.inner.States.{the_state, tok_of}
 use Rattle.html_reader.proofs.LoopLemmas.{starts_reading, no_utf8, led_of, has_room, reads_token, token_refused, lexer_refused, end_refusals, end_answers, is_readable}
 use Rattle.html_reader.proofs.page.read_tokens.Goals as goal
 

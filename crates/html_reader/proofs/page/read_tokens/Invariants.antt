@@ -1,6 +1,6 @@
 use Rattle.std.specs.Prelude.{◌-◌, length}
-use Rattle.html_reader.specs.Pieces.{owned_bytes}
-use Rattle.html_reader.specs.States.{the_state}
+use Rattle.html_reader.specs.inner.Pieces.{owned_bytes}
+use Rattle.html_reader.specs.inner.States.{the_state}
 use Rattle.html_reader.proofs.LoopLemmas.{IsReading}
 use Rattle.html_reader.proofs.page.read_tokens.Given as goal
 

@@ -2,7 +2,7 @@ use Rattle.std.proofs.Common.{◌≡◌, ◌∙◌, sym, refl, ap, arith, get_or
 use Rattle.std.specs.Str.{chars}
 use Rattle.doc_model.specs.Pieces.{piece_text}
 use Rattle.html_reader.specs.declared.token.Attr.{Attr}
-use Rattle.html_reader.specs.Pieces.{owned_bytes}
+use Rattle.html_reader.specs.inner.Pieces.{owned_bytes}
 use Rattle.html_reader.proofs.reader.push_attrs.Given.{Over}
 use Rattle.html_reader.proofs.AttrLemmas.{kept_name, awaits, attr_room}
 use Rattle.html_reader.proofs.reader.push_attrs.Goals as goal

@@ -1,7 +1,7 @@
 use Rattle.std.proofs.Common.{◌≡◌, ◌+◌, map, drop, get_or, sym, ◌∙◌, ap, subst, true}
 use Rattle.std.proofs.lemmas.List.{drop_more}
 use Rattle.html_reader.specs.Tables.{is_listed, are_apart}
-use Rattle.html_reader.specs.Views.{ending_of}
+use Rattle.html_reader.specs.inner.Views.{ending_of}
 use Rattle.html_reader.proofs.TableLemmas.{first_decides}
 use Rattle.html_reader.proofs.tables.is_listed.Goals as goal
 

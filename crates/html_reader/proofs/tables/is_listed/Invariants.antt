@@ -1,6 +1,6 @@
 use Rattle.std.specs.Prelude.{◌≡◌, true, drop, map}
 use Rattle.html_reader.specs.Tables.{is_listed, are_apart}
-use Rattle.html_reader.specs.Views.{ending_of}
+use Rattle.html_reader.specs.inner.Views.{ending_of}
 use Rattle.html_reader.proofs.tables.is_listed.Given as goal
 
 abbrev pub invariant-loop-ending : goal.invariant-loop-ending

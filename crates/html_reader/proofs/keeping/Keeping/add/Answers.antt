@@ -1,6 +1,6 @@
 use Rattle.std.proofs.Common.{subst}
 use Rattle.std.specs.Str.{IsUtf8}
-use Rattle.html_reader.specs.Pieces.{owned_bytes}
+use Rattle.html_reader.specs.inner.Pieces.{owned_bytes}
 use Rattle.html_reader.proofs.KeepLemmas.{texts_pushed}
 use Rattle.html_reader.proofs.keeping.Keeping.add.Goals as goal
 

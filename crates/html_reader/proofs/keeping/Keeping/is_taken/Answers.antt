@@ -1,7 +1,7 @@
 use Rattle.std.proofs.Common.{◌≡◌, ◌||◌, true, false, sym, ◌∙◌, ap, map, drop}
 use Rattle.std.specs.BTreeSet.{contains_text}
-use Rattle.html_reader.specs.States.{attr_of}
-use Rattle.html_reader.specs.Keeping.{has_name}
+use Rattle.html_reader.specs.inner.States.{attr_of}
+use Rattle.html_reader.specs.inner.Keeping.{has_name}
 use Rattle.html_reader.proofs.KeepLemmas.{taken, rest_of}
 use Rattle.html_reader.proofs.keeping.Keeping.is_taken.Goals as goal
 

@@ -2,7 +2,7 @@ use Rattle.std.proofs.Common.{◌≡◌, get_or, rules}
 use Rattle.std.specs.Prelude.{string_bytes, true}
 use Rattle.std.specs.BTreeSet.{contains_text}
 use Rattle.std.proofs.lemmas.Map.Text.{btree_set_updates_text}
-use Rattle.html_reader.specs.Pieces.{owned_bytes}
+use Rattle.html_reader.specs.inner.Pieces.{owned_bytes}
 use Rattle.html_reader.proofs.KeepLemmas.{learns}
 use Rattle.html_reader.proofs.keeping.Keeping.learn.Goals as goal
 

@@ -1,8 +1,8 @@
 use Rattle.std.proofs.Common.{◌≡◌, ◌∙◌, ap, rules, true}
-use Rattle.html_reader.specs.Pieces.{owned_bytes}
+use Rattle.html_reader.specs.inner.Pieces.{owned_bytes}
 use Rattle.doc_model.specs.Growing.{rest_of, Growing}
 use Rattle.html_reader.specs.Places.{Grown}
-use Rattle.html_reader.specs.States.{the_state}
+use Rattle.html_reader.specs.inner.States.{the_state}
 use Rattle.html_reader.proofs.ReadLemmas.{rest_none}
 use Rattle.html_reader.proofs.reader.Reader.close_root.Goals as goal
 

@@ -1,5 +1,5 @@
 use Rattle.std.proofs.Common.{refl, arith, ap}
-use Rattle.html_reader.specs.Pieces.{owned_bytes}
+use Rattle.html_reader.specs.inner.Pieces.{owned_bytes}
 use Rattle.html_reader.proofs.AttrLemmas.{settled_room, comments}
 use Rattle.html_reader.proofs.reader.Reader.comment.Goals as goal
 

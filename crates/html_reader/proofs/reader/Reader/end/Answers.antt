@@ -1,6 +1,6 @@
 use Rattle.std.proofs.Common.{ap, subst, sym, refl, arith, ◌<◌}
 use Rattle.std.specs.Vec.{vec_len}
-use Rattle.html_reader.specs.Pieces.{owned_bytes}
+use Rattle.html_reader.specs.inner.Pieces.{owned_bytes}
 use Rattle.html_reader.proofs.AttrLemmas.{ends_pop, stays_open}
 use Rattle.html_reader.proofs.reader.Reader.end.Goals as goal
 

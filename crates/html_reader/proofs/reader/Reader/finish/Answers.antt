@@ -1,7 +1,7 @@
 use Rattle.std.proofs.Common.{◌≡◌, ◌∙◌, [], refl, sym, subst, rules, arith, None, true, false, inr}
-use Rattle.html_reader.specs.Pieces.{owned_bytes}
-use Rattle.html_reader.specs.Machine.{shuts}
-use Rattle.html_reader.specs.States.{the_state}
+use Rattle.html_reader.specs.inner.Pieces.{owned_bytes}
+use Rattle.html_reader.specs.inner.Machine.{shuts}
+use Rattle.html_reader.specs.inner.States.{the_state}
 use Rattle.html_reader.specs.Reading.{Refuses}
 use Rattle.html_reader.specs.Places.{all_rows}
 use Rattle.html_reader.proofs.ReadLemmas.{mid_sound, mid_size, refuses_open, refuses_rootless, builds}

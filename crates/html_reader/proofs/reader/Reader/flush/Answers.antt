@@ -1,9 +1,9 @@
 use Rattle.std.proofs.Common.{◌≡◌, sym, ◌∙◌, ap, [], rules, refl}
-use Rattle.html_reader.specs.Pieces.{owned_bytes}
-use Rattle.html_reader.specs.States.{grown_of, the_state}
+use Rattle.html_reader.specs.inner.Pieces.{owned_bytes}
+use Rattle.html_reader.specs.inner.States.{grown_of, the_state}
 use Rattle.html_reader.proofs.AttrLemmas.{settle_text}
 use Rattle.html_reader.proofs.ReadLemmas.{still_open}
-use Rattle.html_reader.proofs.TextLemmas.{no_text}
+use Rattle.doc_model.proofs.Awaits.{no_text}
 use Rattle.html_reader.proofs.reader.Reader.flush.Goals as goal
 
 pub text-requires : goal.text-requires

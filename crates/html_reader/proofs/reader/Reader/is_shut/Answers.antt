@@ -1,7 +1,7 @@
 use Rattle.std.proofs.Common.{◌≡◌, ◌∙◌, ◌-◌, ◌||◌, ap, sym, subst, length, Some}
 use Rattle.std.specs.Prelude.{slice_get}
-use Rattle.html_reader.specs.States.{is_single_last, next_of}
-use Rattle.html_reader.specs.Pieces.{owned_bytes}
+use Rattle.html_reader.specs.inner.States.{is_single_last, next_of}
+use Rattle.html_reader.specs.inner.Pieces.{owned_bytes}
 use Rattle.html_reader.specs.Words.{ends_at}
 use Rattle.html_reader.proofs.TestLemmas.{shut_last}
 use Rattle.html_reader.proofs.reader.Reader.is_shut.Goals as goal

@@ -1,7 +1,7 @@
 use Rattle.std.proofs.Common.{◌≡◌, [], false, rules}
-use Rattle.html_reader.specs.States.{the_state}
-use Rattle.html_reader.specs.Machine.{state}
-use Rattle.html_reader.specs.States.{tags_onto}
+use Rattle.html_reader.specs.inner.States.{the_state}
+use Rattle.html_reader.specs.inner.Machine.{state}
+use Rattle.html_reader.specs.inner.States.{tags_onto}
 use Rattle.html_reader.proofs.ReadLemmas.{starts_led}
 use Rattle.html_reader.proofs.reader.Reader.new.Goals as goal
 

@@ -1,8 +1,8 @@
 use Rattle.std.proofs.Common.{◌≡◌, ◌<◌, refl, arith, ◌∙◌, ◌^◌, sym, subst, [], true}
 use Rattle.std.specs.Vec.{vec_len}
-use Rattle.html_reader.specs.Pieces.{owned_bytes}
-use Rattle.html_reader.specs.States.{the_state, tags_onto, next_of}
-use Rattle.html_reader.specs.Reached.{IsReached}
+use Rattle.html_reader.specs.inner.Pieces.{owned_bytes}
+use Rattle.html_reader.specs.inner.States.{the_state, tags_onto, next_of}
+use Rattle.html_reader.specs.inner.Reached.{IsReached}
 use Rattle.html_reader.specs.Words.{is_shut}
 use Rattle.html_reader.proofs.SoundLemmas.{reached_sound, reached_shut, shuts_more, closed_room, shut_some}
 use Rattle.html_reader.proofs.AttrLemmas.{length-tags}

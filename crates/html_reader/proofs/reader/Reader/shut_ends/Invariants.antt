@@ -1,8 +1,8 @@
 use Rattle.std.specs.Prelude.{◌≡◌, ◌+◌, ◌<◌, ◌^◌, length, []}
-use Rattle.html_reader.specs.Pieces.{owned_bytes}
-use Rattle.html_reader.specs.States.{the_state, tags_onto, next_of}
-use Rattle.html_reader.specs.Machine.{shuts}
-use Rattle.html_reader.specs.Reached.{IsReached}
+use Rattle.html_reader.specs.inner.Pieces.{owned_bytes}
+use Rattle.html_reader.specs.inner.States.{the_state, tags_onto, next_of}
+use Rattle.html_reader.specs.inner.Machine.{shuts}
+use Rattle.html_reader.specs.inner.Reached.{IsReached}
 use Rattle.html_reader.proofs.reader.Reader.shut_ends.Given as goal
 
 abbrev pub invariant-loop-self : goal.invariant-loop-self

@@ -1,11 +1,11 @@
 use Rattle.std.proofs.Common.{rules, refl, arith, length, map, sym, subst, ap, ◌+◌, ◌≤◌, length-append, ◌∙◌, ◌≡◌, ◌++◌, [], ◌∷◌}
 use Rattle.doc_model.specs.Pieces.{piece_text}
 use Rattle.doc_model.specs.Growing.{Growing, innermost, element_row}
-use Rattle.html_reader.specs.Kept.{AreKept}
-use Rattle.html_reader.specs.States.{attr_of, the_state}
-use Rattle.html_reader.specs.Machine.{with_some}
+use Rattle.html_reader.specs.inner.Kept.{AreKept}
+use Rattle.html_reader.specs.inner.States.{attr_of, the_state}
+use Rattle.html_reader.specs.inner.Machine.{with_some}
 use Rattle.html_reader.specs.declared.reader.Root.{Root}
-use Rattle.html_reader.specs.Pieces.{owned_bytes}
+use Rattle.html_reader.specs.inner.Pieces.{owned_bytes}
 use Rattle.html_reader.proofs.AttrLemmas.{starts_tag, settled_room, ends_in}
 use Rattle.html_reader.proofs.reader.Reader.start.Goals as goal
 

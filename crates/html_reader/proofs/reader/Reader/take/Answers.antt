@@ -1,7 +1,7 @@
 use Rattle.std.proofs.Common.{◌≡◌, refl, arith, rules, Some}
-use Rattle.html_reader.specs.Pieces.{owned_bytes}
-use Rattle.html_reader.specs.Machine.{shuts}
-use Rattle.html_reader.specs.States.{the_state, tok_of}
+use Rattle.html_reader.specs.inner.Pieces.{owned_bytes}
+use Rattle.html_reader.specs.inner.Machine.{shuts}
+use Rattle.html_reader.specs.inner.States.{the_state, tok_of}
 use Rattle.html_reader.proofs.ReadLemmas.{mid_sound, mid_size, takes}
 use Rattle.html_reader.proofs.reader.Reader.take.Goals as goal
 

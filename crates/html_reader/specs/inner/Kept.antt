@@ -3,7 +3,7 @@ use Rattle.std.specs.Prelude.{◌≡◌, ◌≢◌, ℕ, List, [], ◌∷◌, �
 use Rattle.std.specs.Str.{chars}
 use Rattle.doc_model.specs.Document.{Row}
 use Rattle.doc_model.specs.Growing.{Growing, innermost}
-use Rattle.html_reader.specs.Parents.{Within}
+use Rattle.html_reader.specs.inner.Parents.{Within}
 use Rattle.html_reader.specs.Tokens.{Attr}
 use Rattle.html_reader.specs.Rows.{row_of_element}
 

@@ -1,14 +1,14 @@
 -- Tokens as they are read one by one: for the clauses of the reader's own functions.
 use Rattle.std.specs.Prelude.{◌≡◌, ℕ, ◌+◌, ◌≤◌, List, [], ◌∷◌, ◌++◌, length, Option, Some, None, Result, Ok, Err, ◌⊎◌}
 use Rattle.text_base.specs.declared.reasons.PageFault.{PageFault}
-use Rattle.text_base.specs.declared.reasons.PageReason.TheVariants.{Memory}
 use Rattle.doc_model.specs.Document.{Document}
 use Rattle.html_reader.specs.declared.token.Token.{Token}
 use Rattle.html_reader.specs.Tokens.{Tok}
+use Rattle.html_reader.specs.Pages.{IsMemory}
 use Rattle.html_reader.specs.Reading.{Builds, Refuses}
-use Rattle.html_reader.specs.Machine.{State}
-use Rattle.html_reader.specs.Reached.{Reached}
-use Rattle.html_reader.specs.States.{tok_of, from_of, most_rows}
+use Rattle.html_reader.specs.inner.Machine.{State}
+use Rattle.html_reader.specs.inner.Reached.{Reached}
+use Rattle.html_reader.specs.inner.States.{tok_of, from_of, most_rows}
 
 -- these tokens lead to the state, whatever comes next
 abbrev pub LeadsTo : List Tok → State → Type 0
@@ -22,9 +22,6 @@ pub record IsLed (s : State) : Type 0 where
 -- rows and open tags
 abbrev pub size : State → ℕ
 size s = length s.grown.sofar.rows + length s.tags
-
-abbrev pub IsMemory : PageFault → Type 0
-IsMemory fault = (fault.reason ≡ Memory) × (fault.at ≡ 0)
 
 -- the token is read, or it is refused after all tokens that lead here
 abbrev pub Takes : State → Token → Result (Unit {0}) PageFault → State → Type 0

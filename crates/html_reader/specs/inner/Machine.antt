@@ -50,9 +50,10 @@ held s leaf = state s.tags (after_leaf s.rooted leaf) (holding s.grown leaf)
 abbrev pub closed : State → State
 closed s = state (without_first s.tags) s.rooted (closing s.grown)
 
-abbrev pub is_named : List Tag → List ℕ → Bool
-is_named [] name = false
-is_named (tag ∷ before) name = bytes_eq tag.name name
+-- the innermost open tag has this name
+abbrev pub is_innermost : List Tag → List ℕ → Bool
+is_innermost [] name = false
+is_innermost (tag ∷ before) name = bytes_eq tag.name name
 
 abbrev pub is_empty : {A : Type 0} → List A → Bool
 is_empty [] = true
@@ -64,7 +65,7 @@ step s (starts tag) =
     if not s.rooted.made && (is_empty s.tags && s.rooted.some) then Err SecondRoot
     else (if length s.tags == most_open s.rooted.made then Err Deep
     else Ok (opened s tag))
-step s (ends name) = if is_named s.tags name then Ok (closed s) else Err StrayEnd
+step s (ends name) = if is_innermost s.tags name then Ok (closed s) else Err StrayEnd
 step s (holds leaf) = if not s.rooted.made && (is_empty s.tags && not (is_white_leaf leaf)) then Err TextOutside else Ok (held s leaf)
 
 -- the state after the ends that the next token inserts

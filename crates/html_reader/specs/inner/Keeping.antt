@@ -7,7 +7,7 @@ use Rattle.html_lexer.specs.Attributes.{Writes, IsAttrs}
 use Rattle.html_reader.specs.declared.token.Attr as code
 use Rattle.html_reader.specs.Tokens.{Attr}
 use Rattle.html_reader.specs.Contents.{kept}
-use Rattle.html_reader.specs.States.{attr_of}
+use Rattle.html_reader.specs.inner.States.{attr_of}
 
 -- an attribute has the name
 abbrev pub has_name : List Attr → List ℕ → Bool
@@ -36,7 +36,7 @@ pub record Keeps (raw : List ℕ) (attrs : List Attr) : Type 0 where
   pub writes : Writes raw 0 written
   pub is : attrs ≡ kept written
 
--- a start tag has a name, and what stands behind it are attributes
+-- a start tag has a name, and what stands after it are attributes
 abbrev pub IsReadable : Lexed → Type 0
 IsReadable (start_tok from to name attrs slash) = (name ≢ []) × IsAttrs attrs
 IsReadable (end_tok from to name) = Unit {0}

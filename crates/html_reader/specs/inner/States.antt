@@ -15,11 +15,11 @@ use Rattle.html_reader.specs.Tokens.{Attr, Tag, text, comment, doctype, Tok, sta
 use Rattle.html_reader.specs.Rows.{sofar}
 use Rattle.html_reader.specs.Places.{Grown, below}
 use Rattle.doc_model.specs.Growing.{Growing, innermost}
-use Rattle.html_reader.specs.Children.{ends_in_text}
-use Rattle.html_reader.specs.Kept.{AreKept}
-use Rattle.html_reader.specs.Parents.{Within}
-use Rattle.html_reader.specs.Pieces.{owned_bytes}
-use Rattle.html_reader.specs.Machine.{State, state, step}
+use Rattle.doc_model.specs.inner.LastChild.{ends_in_text}
+use Rattle.html_reader.specs.inner.Kept.{AreKept}
+use Rattle.html_reader.specs.inner.Parents.{Within}
+use Rattle.html_reader.specs.inner.Pieces.{owned_bytes}
+use Rattle.html_reader.specs.inner.Machine.{State, state, step}
 
 abbrev pub attr_of : code_attr.Attr → Attr
 attr_of a = record { name = owned_bytes a.name; value = owned_bytes a.value }
@@ -42,10 +42,10 @@ from_of (code.Comment from content) = from
 from_of (code.Doctype from) = from
 
 -- the tag of a start tag has a name, and the attributes are those kept
-abbrev pub IsKept : Tok → Type 0
-IsKept (starts tag) = (tag.name ≢ []) × AreKept tag.attrs
-IsKept (ends name) = Unit {0}
-IsKept (holds leaf) = Unit {0}
+abbrev pub HasKeptAttributes : Tok → Type 0
+HasKeptAttributes (starts tag) = (tag.name ≢ []) × AreKept tag.attrs
+HasKeptAttributes (ends name) = Unit {0}
+HasKeptAttributes (holds leaf) = Unit {0}
 
 -- a stack's tags, the innermost first, on top of these
 abbrev pub tags_onto : List Tag → List StartTag → List Tag
