@@ -1,6 +1,7 @@
 -- Conversions and comparisons of values, in a document.
-use Rattle.std.specs.Prelude.{ℕ, Bool, true, false, List, [], ◌∷◌}
+use Rattle.std.specs.Prelude.{ℕ, Bool, List, [], ◌∷◌}
 use Rattle.std.specs.List.{list_any}
+use Rattle.text_base.specs.Words.{is_some}
 use Rattle.doc_model.specs.Document.{Document}
 use Rattle.doc_model.specs.StringValue.{string_value}
 use Rattle.xpath_values.specs.declared.value.XNum.{XNum}
@@ -10,9 +11,9 @@ use Rattle.xpath_values.specs.declared.value.Value.TheVariants.{Nodes, Num, Str,
 use Rattle.xpath_values.specs.Compares as plain
 use Rattle.xpath_values.specs.Compares.{Plain, truth, num, chars, plain_fits}
 
+-- there are rows
 abbrev pub is_any : List ℕ → Bool
-is_any [] = false
-is_any (x ∷ xs) = true
+is_any xs = is_some xs
 
 abbrev pub rows_of : Value → List ℕ
 rows_of (Nodes xs) = xs
