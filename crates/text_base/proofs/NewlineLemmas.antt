@@ -15,7 +15,7 @@ use Rattle.text_base.proofs.Boundaries.{place}
 use Rattle.text_base.proofs.Runs.{not_found, found_at}
 use Rattle.memchr.specs.Find.{IsFirstByte, is_byte}
 use Rattle.text_base.specs.declared.reasons.PageReason.TheVariants.{NotUtf8, Nul}
-use Rattle.text_base.specs.Newlines.{newlines_after}
+use Rattle.text_base.specs.inner.Newlines.{newlines_after}
 use Rattle.text_base.specs.Decoding.{newlines, without_mark, decoded, fault}
 
 lt-ltb : (a b : ℕ) → a < b → ltb a b ≡ true

@@ -4,7 +4,7 @@ use Rattle.std.specs.Prelude.{◌==◌, ◌&&◌}
 use Rattle.std.specs.List.{range_with_len, filter}
 use Rattle.std.proofs.lemmas.Bool.{cases_Bool, and_left, and_right}
 use Rattle.std.proofs.lemmas.List.{drop_more, drop_all}
-use Rattle.text_base.specs.Newlines.{newlines_after}
+use Rattle.text_base.specs.inner.Newlines.{newlines_after}
 use Rattle.text_base.specs.Decoding.{is_kept, newline_for, newlines}
 
 module _ (bytes : List ℕ) where

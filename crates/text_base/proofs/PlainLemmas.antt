@@ -3,7 +3,7 @@ use Rattle.std.proofs.Common.{◌≡◌, ℕ, zero, suc, ◌-◌, ◌<◌, ◌�
 use Rattle.std.specs.Prelude.{◌==◌, ◌&&◌, slice_range}
 use Rattle.std.proofs.lemmas.List.{nil_from_length, take_all, append-nil}
 use Rattle.text_base.specs.Text.{run_end, is_not_byte}
-use Rattle.text_base.specs.Newlines.{newlines_after}
+use Rattle.text_base.specs.inner.Newlines.{newlines_after}
 use Rattle.text_base.specs.Decoding.{newlines, without_mark}
 use Rattle.text_base.proofs.NewlineLemmas.{last_line, none_left}
 use Rattle.text_base.proofs.NewlinePlaces.{newlines_read}

@@ -1,10 +1,10 @@
 pub mod Decoding
 pub mod Kinds
 pub mod Names
-pub mod Newlines
 pub mod Parts
 pub mod Positions
 pub mod Reasons
 pub mod Strings
 pub mod Text
 pub mod Words
+pub mod inner

@@ -2,7 +2,7 @@ ghost use Rattle.std.specs.Prelude.{◌≡◌, ◌+◌, ◌<◌, ◌≤◌, ◌+
 ghost use Rattle.std.specs.String.{string_bytes};
 ghost use Rattle.std.specs.Str.Lossy.{utf8_valid_len};
 ghost use Rattle.text_base.specs.Text.{run_end, is_not_byte, IsPlace};
-ghost use Rattle.text_base.specs.Newlines.{newlines_after};
+ghost use Rattle.text_base.specs.inner.Newlines.{newlines_after};
 ghost use Rattle.text_base.specs.Decoding.{newlines, without_mark, decoded, Gives};
 
 use crate::finding::{byte_at, find_byte, part};

@@ -14,8 +14,8 @@ use Rattle.xpath_lexer.specs.declared.token.XKind.{XKind}
 use Rattle.xpath_lexer.specs.declared.token.XKind.TheVariants as k
 use Rattle.xpath_lexer.specs.Tokens as t
 use Rattle.xpath_lexer.specs.Tokens.{Text, Lexeme, lexeme, Begun, token, span}
-use Rattle.xpath_lexer.specs.Sizes as s
-use Rattle.xpath_lexer.specs.Sizes.{Size}
+use Rattle.xpath_lexer.specs.inner.Sizes as s
+use Rattle.xpath_lexer.specs.inner.Sizes.{Size}
 
 one_more : (n : ℕ) → suc n ≡ 1 + n
 one_more n = omega arith

@@ -10,7 +10,8 @@ use Rattle.xpath_lexer.specs.declared.token.XTok.{XTok}
 use Rattle.xpath_lexer.specs.Tokens.{Text, Lexeme, token, Spells, ends, space, next}
 use Rattle.text_base.specs.declared.reasons.XPathFault.{XPathFault}
 use Rattle.text_base.specs.declared.reasons.XPathFault.TheVariants as fault
-use Rattle.xpath_lexer.specs.Places.{IsToken, IsNext, IsFault, Stand, lexeme_of, most_xpath}
+use Rattle.xpath_lexer.specs.Places.{IsToken, IsFault, Stand, lexeme_of, most_xpath}
+use Rattle.xpath_lexer.specs.inner.Stands.{IsNext}
 use Rattle.xpath_lexer.proofs.Spelling.{after_space, after_token, none_begins}
 
 pub record Spelled (x : Text) : Type 0 where

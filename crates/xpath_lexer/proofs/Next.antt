@@ -10,8 +10,9 @@ use Rattle.xpath_lexer.specs.declared.token.XKind.{XKind}
 use Rattle.xpath_lexer.specs.declared.token.XKind.TheVariants as k
 use Rattle.xpath_lexer.specs.declared.token.XTok.{XTok}
 use Rattle.xpath_lexer.specs.Tokens.{Text, lexeme, token}
-use Rattle.xpath_lexer.specs.Sizes.{token_size}
-use Rattle.xpath_lexer.specs.Places.{IsNext, ValueStands, value_bytes}
+use Rattle.xpath_lexer.specs.inner.Sizes.{token_size}
+use Rattle.xpath_lexer.specs.Places.{value_bytes}
+use Rattle.xpath_lexer.specs.inner.Stands.{IsNext, ValueStands}
 use Rattle.xpath_lexer.proofs.Cuts.{written, cut, Quotes, Sound, is_literal, token_right}
 
 pub encode_chars : (bs : Text) → IsUtf8 bs → encode_utf8_all (chars bs) ≡ bs

@@ -2,7 +2,7 @@
 use Rattle.std.proofs.Common.{◌≡◌, refl, sym, ◌∙◌, ap, subst, ℕ, zero, suc, ◌<◌, ◌≤◌, Bool, true, false, List, [], ◌∷◌, length, drop, Option, Some, None, arith, ◌⊎◌, inl, inr, length-drop}
 use Rattle.text_base.specs.Text.{is_space4}
 use Rattle.xpath_lexer.specs.Tokens.{Text, Lexeme, lexeme, Begun, Spells, token, ends, space, next}
-use Rattle.xpath_lexer.specs.Sizes.{Size, token_size}
+use Rattle.xpath_lexer.specs.inner.Sizes.{Size, token_size}
 use Rattle.xpath_lexer.proofs.Cuts.{cut, written, Sound, token_right}
 use Rattle.xpath_lexer.proofs.Spelling.{after_space, after_token, none_begins}
 

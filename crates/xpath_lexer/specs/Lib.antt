@@ -1,4 +1,4 @@
 pub mod Laws
 pub mod Places
-pub mod Sizes
 pub mod Tokens
+pub mod inner

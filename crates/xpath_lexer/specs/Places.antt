@@ -1,7 +1,7 @@
 -- The tokens of a text at their places.
 use Rattle.std.specs.Prelude.{◌≡◌, ℕ, ◌+◌, ◌-◌, ◌<◌, ◌≤◌, true, List, [], ◌∷◌, length, drop, slice_index, slice_range, encode_utf8_all, Some}
 use Rattle.std.specs.Str.{chars}
-use Rattle.text_base.specs.Text.{is_space4, IsPlace}
+use Rattle.text_base.specs.Text.{is_space4}
 use Rattle.text_base.specs.declared.reasons.XPathFault.{XPathFault}
 use Rattle.text_base.specs.declared.reasons.XPathFault.TheVariants as fault
 use Rattle.xpath_lexer.specs.declared.token.XKind.{XKind}
@@ -41,16 +41,3 @@ abbrev pub IsFault : Text → XPathFault → Type 0
 IsFault text fault.Long = most_xpath < length text
 IsFault text fault.Text = (length text ≤ most_xpath) × ((ws : List Lexeme) → Spells text ws → ⊥)
 IsFault text _ = ⊥
-
--- ---- what serves the contracts of the code's own functions
-
--- the text may be cut where the value of the token stands
-abbrev pub ValueStands : Text → XKind → ℕ → ℕ → Type 0
-ValueStands text k.Literal from to = (from + 2 ≤ to) × IsPlace text (from + 1) × IsPlace text (to - 1)
-ValueStands text _ from to = (from ≤ to) × IsPlace text from × IsPlace text to
-
--- the token at this place
-pub record IsNext (text : Text) (at : ℕ) (w : XTok) : Type 0 where
-  pub here : w.from ≡ at
-  pub is : IsToken text at w
-  pub place : IsPlace text w.to

@@ -1,6 +1,6 @@
 ghost use Rattle.std.specs.Prelude.{◌≡◌, ◌+◌, ◌<◌, ◌≤◌, length, slice_index};
 ghost use Rattle.text_base.specs.Text.{run_end};
-ghost use Rattle.xpath_lexer.specs.Sizes as spec;
+ghost use Rattle.xpath_lexer.specs.inner.Sizes as spec;
 
 use crate::token::XKind;
 use text_base::{ByteKind, Space4, is_digit, is_name_byte, is_name_start};
@@ -185,7 +185,7 @@ fn mark_size(byte: u8, text: &[u8]) -> Option<(XKind, usize)>
 }
 
 /// What the token at the front of a text is, and how many bytes it has.
-#[tactic(auto, unfolding(crate::specs::Sizes::token_size))]
+#[tactic(auto, unfolding(crate::specs::inner::Sizes::token_size))]
 pub fn token_size(text: &[u8]) -> Option<(XKind, usize)>
     ensures { result ≡ spec.token_size text.now }
 {

@@ -3,7 +3,8 @@ ghost use Rattle.std.specs.Str.{chars};
 ghost use Rattle.text_base.specs.Text.{IsPlace};
 ghost use Rattle.text_base.specs.declared.reasons.XPathFault.TheVariants as fault;
 ghost use Rattle.xpath_lexer.specs.Tokens.{Spells, token};
-ghost use Rattle.xpath_lexer.specs.Places.{IsNext, IsFault, Stand, ValueStands, lexeme_of, most_xpath, value_bytes};
+ghost use Rattle.xpath_lexer.specs.Places.{IsFault, Stand, lexeme_of, most_xpath, value_bytes};
+ghost use Rattle.xpath_lexer.specs.inner.Stands.{IsNext, ValueStands};
 
 use crate::sizes::{Run, end_of, token_size};
 use crate::token::{XKind, XTok};

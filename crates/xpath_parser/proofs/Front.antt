@@ -7,7 +7,7 @@ use Rattle.xpath_parser.specs.declared.expression.Expr.TheVariants as e
 use Rattle.xpath_parser.specs.declared.expression.Operand.{Operand}
 use Rattle.xpath_parser.specs.Grammar.{any_below, tier_of, Operands, operand, made, joined, is_joined}
 use Rattle.xpath_parser.specs.declared.term.Term.{Term}
-use Rattle.xpath_parser.specs.Parsing.{with_front, mapped, joins_at, made_of, listed}
+use Rattle.xpath_parser.specs.inner.Parsing.{with_front, mapped, joins_at, made_of, listed}
 use Rattle.xpath_parser.specs.Reader
 use Rattle.xpath_parser.specs.Reader.{Outcome, Parser, ◌>>=◌, sees, rest, expect, preds, args, steps, operators, after_arg, after_step}
 

@@ -16,7 +16,7 @@ use Rattle.xpath_parser.specs.declared.expression.Start.TheVariants.{Here, Root,
 use Rattle.xpath_parser.specs.declared.expression.Step.{Step, out-Step}
 use Rattle.xpath_parser.specs.declared.expression.Operand.{Operand, out-Operand}
 use Rattle.xpath_parser.specs.Shapes.{Typing, typing, is_nodes, infix_shape, joined_shape, function_shape, takes, wants_nodes, if_wanted, expr_typing, start_typing, operand_typing, step_typing}
-use Rattle.xpath_parser.specs.Typings.{start_right, operand_typed, step_right, operand_right, fits}
+use Rattle.xpath_parser.specs.inner.Typings.{start_right, operand_typed, step_right, operand_right, fits}
 use Rattle.xpath_parser.proofs.Equations.{all_map}
 use Rattle.xpath_parser.proofs.Walks.{here}
 

@@ -9,7 +9,7 @@ use Rattle.xpath_lexer.specs.Places.{lexeme_of}
 use Rattle.xpath_lexer.specs.declared.token.XTok.{XTok}
 use Rattle.xpath_values.specs.Numbers.{largest_whole}
 use Rattle.xpath_parser.specs.Terms.{is_open, is_close, most_open, IsShallow}
-use Rattle.xpath_parser.specs.Depth.{one, ShallowFrom}
+use Rattle.xpath_parser.specs.inner.Depth.{one, ShallowFrom}
 
 pub here : {A : Type 0} (xs : List A) (i : ℕ) (x : A) → i < length xs → x ≡ get_or xs i x → drop i xs ≡ x ∷ drop (i + 1) xs
 here xs i x l e = drop-cons xs i x l ∙ ap (λ y. y ∷ drop (suc i) xs) (sym e) ∙ ap (λ n. x ∷ drop n xs) (let f : suc i ≡ i + 1 = omega arith in f)

@@ -1,6 +1,6 @@
 ghost use Rattle.std.specs.Prelude.{◌≡◌, ◌<◌, ◌^◌, length, option_copied};
 ghost use Rattle.xpath_parser.specs.Reader as spec;
-ghost use Rattle.xpath_parser.specs.Parsing.{Gives};
+ghost use Rattle.xpath_parser.specs.inner.Parsing.{Gives};
 
 use crate::refusal::Refusal;
 use crate::term::Term;

@@ -1,6 +1,6 @@
 ghost use Rattle.std.specs.Prelude.{◌≡◌, ◌≤◌, true, false, map};
 ghost use Rattle.xpath_lexer.specs.Places.{lexeme_of};
-ghost use Rattle.xpath_parser.specs.Depth.{one};
+ghost use Rattle.xpath_parser.specs.inner.Depth.{one};
 ghost use Rattle.xpath_parser.specs.Terms.{IsShallow, is_open, is_close};
 
 use xpath_lexer::{XKind, XTok};

@@ -3,7 +3,7 @@
 ghost use Rattle.std.specs.Prelude.{◌≡◌, [], length};
 ghost use Rattle.doc_model.specs.declared.NodeTest.TheVariants as nt;
 ghost use Rattle.xpath_parser.specs.Grammar.{step_of};
-ghost use Rattle.xpath_parser.specs.Parsing.{Gives, Nests, with_front};
+ghost use Rattle.xpath_parser.specs.inner.Parsing.{Gives, Nests, with_front};
 ghost use Rattle.xpath_parser.specs.Reader as spec;
 
 use crate::cursor::{

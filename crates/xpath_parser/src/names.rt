@@ -2,7 +2,7 @@
 ghost use Rattle.std.specs.Prelude.{◌≡◌, map};
 ghost use Rattle.text_base.specs.Names.{named_in};
 ghost use Rattle.xpath_parser.specs.Terms.{axis_names, node_type_names, function_names, operator_names};
-ghost use Rattle.xpath_parser.specs.Names.{entry};
+ghost use Rattle.xpath_parser.specs.inner.Names.{entry};
 
 use crate::expression::Func;
 use crate::term::NodeType;

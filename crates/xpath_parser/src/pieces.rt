@@ -2,7 +2,7 @@
 ghost use Rattle.std.specs.Prelude.{◌≡◌, ◌∷◌, [], IfOk, option_copied};
 ghost use Rattle.xpath_parser.specs.Grammar as grammar;
 ghost use Rattle.xpath_parser.specs.Reader as spec;
-ghost use Rattle.xpath_parser.specs.Parsing.{joins_at, listed};
+ghost use Rattle.xpath_parser.specs.inner.Parsing.{joins_at, listed};
 
 use crate::expression::{Expr, Infix, Step};
 use crate::term::{NodeType, Term};

@@ -2,7 +2,7 @@
 ghost use Rattle.std.specs.Prelude.{◌≡◌, ◌&&◌, map};
 ghost use Rattle.std.specs.List.{list_all};
 ghost use Rattle.xpath_parser.specs.Shapes as spec;
-ghost use Rattle.xpath_parser.specs.Typings.{start_right, step_right, operand_typed, operand_right, fits};
+ghost use Rattle.xpath_parser.specs.inner.Typings.{start_right, step_right, operand_typed, operand_right, fits};
 
 use crate::expression::{Expr, Func, Infix, Operand, Start, Step};
 use crate::faults::takes;

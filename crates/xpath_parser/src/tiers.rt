@@ -2,7 +2,7 @@
 
 ghost use Rattle.std.specs.Prelude.{◌≡◌, true, ◌<◌, ◌≤◌, ◌+◌, ◌⊎◌, ◌∷◌, length, Some, map};
 ghost use Rattle.xpath_parser.specs.Grammar as grammar;
-ghost use Rattle.xpath_parser.specs.Parsing.{Gives, Nests, with_front, mapped, joins_at, made_of};
+ghost use Rattle.xpath_parser.specs.inner.Parsing.{Gives, Nests, with_front, mapped, joins_at, made_of};
 ghost use Rattle.xpath_parser.specs.Reader as spec;
 
 use crate::cursor::Cursor;

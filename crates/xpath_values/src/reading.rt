@@ -1,7 +1,7 @@
 ghost use Rattle.std.specs.Prelude.{◌≡◌};
 ghost use Rattle.std.specs.Str.{chars};
 ghost use Rattle.xpath_values.specs.Numbers as spec;
-ghost use Rattle.xpath_values.specs.Reading as reading;
+ghost use Rattle.xpath_values.specs.inner.Reading as reading;
 
 use crate::numbers::{LARGEST_WHOLE, neg, whole};
 use crate::value::XNum;

@@ -1,5 +1,5 @@
 use Rattle.std.proofs.Common.{◌++◌, sym, ◌∙◌, ap, false}
-use Rattle.text_base.specs.Newlines.{newlines_after}
+use Rattle.text_base.specs.inner.Newlines.{newlines_after}
 use Rattle.text_base.proofs.Boundaries.{at_start}
 use Rattle.text_base.proofs.NewlinePlaces.{newlines_read}
 use Rattle.text_base.proofs.decoding.with_newlines.Goals as goal

@@ -2,7 +2,7 @@ use Rattle.std.proofs.Common.{◌≡◌, ◌-◌, ◌++◌, length, drop, false}
 use Rattle.std.specs.String.{string_bytes}
 use Rattle.text_base.specs.Text.{IsPlace}
 use Rattle.text_base.specs.Decoding.{newlines}
-use Rattle.text_base.specs.Newlines.{newlines_after}
+use Rattle.text_base.specs.inner.Newlines.{newlines_after}
 use Rattle.text_base.proofs.decoding.with_newlines.Given as goal
 
 abbrev pub invariant-loop-from : goal.invariant-loop-from

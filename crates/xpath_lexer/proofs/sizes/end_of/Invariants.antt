@@ -1,6 +1,6 @@
 use Rattle.std.proofs.Common.{◌≡◌, ◌-◌, ◌≤◌, length}
 use Rattle.text_base.specs.Text.{run_end}
-use Rattle.xpath_lexer.specs.Sizes.{has}
+use Rattle.xpath_lexer.specs.inner.Sizes.{has}
 use Rattle.xpath_lexer.proofs.sizes.end_of.Given as goal
 
 abbrev pub invariant-loop-at : goal.invariant-loop-at

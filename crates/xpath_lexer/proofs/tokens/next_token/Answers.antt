@@ -1,5 +1,5 @@
 use Rattle.std.proofs.Common.{◌≡◌, ◌+◌, inr, refl, rules, length, ◌≤◌, drop, sym, ap, ◌∙◌, Some}
-use Rattle.xpath_lexer.specs.Sizes.{token_size}
+use Rattle.xpath_lexer.specs.inner.Sizes.{token_size}
 use Rattle.xpath_lexer.proofs.Next as next
 use Rattle.xpath_lexer.proofs.tokens.next_token.Goals as goal
 

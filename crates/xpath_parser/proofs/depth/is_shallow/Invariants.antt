@@ -1,7 +1,7 @@
 use Rattle.std.specs.Prelude.{◌≤◌, ◌+◌, ◌↔◌, drop, map}
 use Rattle.xpath_lexer.specs.Places.{lexeme_of}
 use Rattle.xpath_parser.specs.Terms.{most_open, IsShallow}
-use Rattle.xpath_parser.specs.Depth.{ShallowFrom}
+use Rattle.xpath_parser.specs.inner.Depth.{ShallowFrom}
 use Rattle.xpath_parser.proofs.depth.is_shallow.Given as goal
 
 abbrev pub invariant-loop-token : goal.invariant-loop-token

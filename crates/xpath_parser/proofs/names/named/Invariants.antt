@@ -1,6 +1,6 @@
 use Rattle.std.specs.Prelude.{◌≡◌, drop, map}
 use Rattle.text_base.specs.Names.{named_in}
-use Rattle.xpath_parser.specs.Names.{entry}
+use Rattle.xpath_parser.specs.inner.Names.{entry}
 use Rattle.xpath_parser.proofs.names.named.Given as goal
 
 abbrev pub invariant-loop-row : goal.invariant-loop-row

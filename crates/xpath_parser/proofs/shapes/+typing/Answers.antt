@@ -4,7 +4,7 @@ use Rattle.std.specs.List.{list_all}
 use Rattle.xpath_values.specs.declared.value.Shape.TheVariants as shape
 use Rattle.xpath_parser.specs.declared.expression.Expr.TheVariants as e
 use Rattle.xpath_parser.specs.Shapes as spec
-use Rattle.xpath_parser.specs.Typings.{start_right, step_right, operand_typed, operand_right, fits}
+use Rattle.xpath_parser.specs.inner.Typings.{start_right, step_right, operand_typed, operand_right, fits}
 use Rattle.xpath_parser.proofs.ShapeLemmas as lemma
 use Rattle.xpath_parser.proofs.shapes.+typing.Goals as goal
 

@@ -1,6 +1,6 @@
 use Rattle.std.specs.Prelude.{◌≡◌, drop}
 use Rattle.std.specs.List.{list_all}
-use Rattle.xpath_parser.specs.Typings.{step_right, operand_right, fits}
+use Rattle.xpath_parser.specs.inner.Typings.{step_right, operand_right, fits}
 use Rattle.xpath_parser.proofs.shapes.+typing.Given as goal
 
 abbrev pub invariant-all_fit-loop-e : goal.invariant-all_fit-loop-e

@@ -1,6 +1,6 @@
 use Rattle.std.proofs.Common.{arith, ◌≡◌, ap, sym, subst}
 use Rattle.xpath_parser.specs.Reader.{expr}
-use Rattle.xpath_parser.specs.Parsing.{Gives}
+use Rattle.xpath_parser.specs.inner.Parsing.{Gives}
 use Rattle.xpath_parser.proofs.Front.{expr_at}
 use Rattle.xpath_parser.proofs.tiers.+expr.Goals as goal
 

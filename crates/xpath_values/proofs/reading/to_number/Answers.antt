@@ -3,7 +3,7 @@ use Rattle.std.specs.Str.{chars}
 use Rattle.std.proofs.lemmas.Iterator.{YieldsList-from_chars}
 use Rattle.std.proofs.lemmas.Iterator.Consumers.{YieldsList-end}
 use Rattle.xpath_values.specs.declared.reading.Reading.TheVariants.{Front}
-use Rattle.xpath_values.specs.Reading.{after, number}
+use Rattle.xpath_values.specs.inner.Reading.{after, number}
 use Rattle.xpath_values.proofs.Scanned.{scanned}
 use Rattle.xpath_values.proofs.reading.to_number.Goals as goal
 

@@ -3,7 +3,7 @@ use Rattle.std.proofs.lemmas.Grind.{common_steps}
 use Rattle.std.proofs.lemmas.Bool.Decides.{nat_tests}
 use Rattle.xpath_parser.specs.declared.expression.Expr.TheVariants as e
 use Rattle.xpath_parser.specs.Grammar as grammar
-use Rattle.xpath_parser.specs.Parsing.{Gives, with_front, mapped, joins_at}
+use Rattle.xpath_parser.specs.inner.Parsing.{Gives, with_front, mapped, joins_at}
 use Rattle.xpath_parser.specs.Reader as spec
 use Rattle.xpath_parser.specs.Reader.{◌>>=◌}
 use Rattle.xpath_parser.proofs.Front as front

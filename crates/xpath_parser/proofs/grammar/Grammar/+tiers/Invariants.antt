@@ -1,7 +1,7 @@
 use Rattle.std.proofs.Common.{◌≡◌, ◌-◌, ◌+◌, ◌*◌, length}
 use Rattle.xpath_parser.specs.Grammar.{operand}
 use Rattle.xpath_parser.specs.Reader.{expr, operators, tier, signed}
-use Rattle.xpath_parser.specs.Parsing.{with_front, mapped}
+use Rattle.xpath_parser.specs.inner.Parsing.{with_front, mapped}
 use Rattle.xpath_parser.proofs.Front.{with_count}
 use Rattle.xpath_parser.proofs.grammar.Grammar.+tiers.Given as goal
 

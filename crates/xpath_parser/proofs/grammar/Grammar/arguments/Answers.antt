@@ -1,7 +1,7 @@
 use Rattle.std.proofs.Common.{rules, arith, ◌≡◌, ◌∙◌, sym, ap, ◌+◌, ◌-◌, ◌++◌, ◌∷◌, [], true, false, Some}
 use Rattle.std.proofs.lemmas.Grind.{common_steps}
 use Rattle.xpath_parser.specs.Reader.{expr, args, sees, rest}
-use Rattle.xpath_parser.specs.Parsing.{with_front}
+use Rattle.xpath_parser.specs.inner.Parsing.{with_front}
 use Rattle.xpath_parser.proofs.Front.{one_more, arg_turn, arg_last}
 use Rattle.xpath_parser.proofs.grammar.Grammar.arguments.Goals as goal
 

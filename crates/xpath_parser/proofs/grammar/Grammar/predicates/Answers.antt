@@ -1,7 +1,7 @@
 use Rattle.std.proofs.Common.{rules, arith, ◌≡◌, ◌∙◌, sym, ap, ◌+◌, ◌-◌, ◌++◌, ◌∷◌, [], true, Some}
 use Rattle.std.proofs.lemmas.Grind.{common_steps}
 use Rattle.xpath_parser.specs.Reader.{expr, preds, sees, rest, expect}
-use Rattle.xpath_parser.specs.Parsing.{with_front}
+use Rattle.xpath_parser.specs.inner.Parsing.{with_front}
 use Rattle.xpath_parser.proofs.Front.{one_more, pred_turn}
 use Rattle.xpath_parser.proofs.grammar.Grammar.predicates.Goals as goal
 

@@ -3,7 +3,7 @@ use Rattle.std.proofs.lemmas.Grind.{common_steps}
 use Rattle.xpath_parser.specs.Reader as spec
 use Rattle.xpath_parser.specs.Reader.{expr, steps, sees, rest}
 use Rattle.xpath_parser.specs.Grammar.{any_below}
-use Rattle.xpath_parser.specs.Parsing.{with_front}
+use Rattle.xpath_parser.specs.inner.Parsing.{with_front}
 use Rattle.xpath_parser.proofs.Front.{one_more, step_turn, step_below, step_last}
 use Rattle.xpath_parser.proofs.grammar.Grammar.steps.Goals as goal
 use Rattle.xpath_parser.proofs.grammar.Grammar.steps.Goals.{then-sees, else-sees+then-sees-2+in_ok-push-2}

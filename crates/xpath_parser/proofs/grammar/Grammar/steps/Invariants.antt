@@ -1,6 +1,6 @@
 use Rattle.std.proofs.Common.{◌≡◌, ◌-◌, length}
 use Rattle.xpath_parser.specs.Reader.{expr, steps}
-use Rattle.xpath_parser.specs.Parsing.{with_front}
+use Rattle.xpath_parser.specs.inner.Parsing.{with_front}
 use Rattle.xpath_parser.proofs.grammar.Grammar.steps.Given as goal
 
 abbrev pub invariant-loop-turn : goal.invariant-loop-turn

@@ -1,0 +1,5 @@
+-- What private functions and proofs say. No contract of a public call cites it.
+pub mod Depth
+pub mod Names
+pub mod Parsing
+pub mod Typings
