@@ -1,7 +1,7 @@
 //! The tables by element name.
 ghost use Rattle.std.specs.Prelude.{◌≡◌, map, not, true};
 ghost use Rattle.html_reader.specs.Tables.{is_one_of, is_void, is_foreign, may_omit_end, start_ends, head_names, is_listed, are_apart};
-ghost use Rattle.html_reader.specs.Tokens.{texts};
+ghost use Rattle.html_lexer.specs.Names.{texts};
 ghost use Rattle.html_reader.specs.inner.Views.{ending_of};
 
 use html_lexer::void_names;

@@ -11,23 +11,22 @@ use Rattle.html_reader.proofs.InkLemmas.{ink_text, is_literal, newline, ink_cont
 use Rattle.html_reader.proofs.NameFacts.{each_passes}
 use Rattle.markup_out.specs.Escapes.{escaped_text, escaped_value}
 use Rattle.markup_out.specs.Names as out
-use Rattle.markup_out.specs.Names.{void_names as out_void_names, raw_names as out_raw_names, newline_names as out_newline_names}
 use Rattle.markup_out.specs.Markup.{begins_newline}
 use Rattle.markup_out.proofs.NameLemmas.{void_same, raw_same, newline_same, begins_same, ascii_bytes}
 
 -- ---- names
 
 pub void_is : (name : List ℕ) → IsUtf8 name → out.is_void (chars name) ≡ is_void name
-unfolding void_names out_void_names
+unfolding void_names
 void_is name u = sym (void_same name u)
 
 pub takes_is : (name : List ℕ) → IsUtf8 name → str_to_ascii_lowercase name ≡ name → out.takes_newline (chars name) ≡ takes_newline name
-unfolding newline_names out_newline_names
+unfolding newline_names
 takes_is name u low = sym (newline_same name u) ∙ ap out.takes_newline (sym low)
 
 -- a name in lower case is one of a table in any case where it is one of the table
 lit_is : (name : List ℕ) → str_to_ascii_lowercase name ≡ name → list_any (λ n. str_eq_ignore_ascii_case n name) literal_names ≡ out.is_raw name
-unfolding literal_names out_raw_names
+unfolding literal_names
 lit_is name low = λ j. list_any (λ n. bytes_eq n (low j)) literal_names
 
 esc_names : List (List ℕ)
@@ -38,7 +37,7 @@ unfolding escapable_names esc_names
 esc_is name low = λ j. list_any (λ n. bytes_eq n (low j)) escapable_names
 
 esc_table : list_all (λ n. not (out.is_raw n)) esc_names ≡ true
-unfolding out_raw_names esc_names
+unfolding literal_names esc_names
 esc_table = refl
 
 not_true : (b : Bool) → not b ≡ true → b ≡ false
@@ -58,16 +57,16 @@ raw_is name u low =
     ∙ sym (literal_by (list_any (λ n. str_eq_ignore_ascii_case n name) literal_names) (is_escapable name)
     (λ e. lit_is name low ∙ not_true (out.is_raw name) (each_passes (λ n. not (out.is_raw n)) esc_names name esc_table (sym (esc_is name low) ∙ e))))
 
-raw_table : list_all (λ n. not (takes_newline n)) out_raw_names ≡ true
-unfolding out_raw_names newline_names
+raw_table : list_all (λ n. not (takes_newline n)) literal_names ≡ true
+unfolding literal_names newline_names
 raw_table = refl
 
 -- they take no newline
 pub literal_takes : (name : List ℕ) → IsUtf8 name → str_to_ascii_lowercase name ≡ name → is_literal name ≡ true → takes_newline name ≡ false
-literal_takes name u low h = not_true (takes_newline name) (each_passes (λ n. not (takes_newline n)) out_raw_names name raw_table (raw_same name u ∙ raw_is name u low ∙ h))
+literal_takes name u low h = not_true (takes_newline name) (each_passes (λ n. not (takes_newline n)) literal_names name raw_table (raw_same name u ∙ raw_is name u low ∙ h))
 
 pub none_raw : out.is_raw [] ≡ false
-unfolding out_raw_names
+unfolding literal_names
 none_raw = refl
 
 literal_none : is_literal [] ≡ false
@@ -82,7 +81,7 @@ newline_false : (s : List ℕ) → newline false s ≡ []
 newline_false [] = refl
 newline_false (c ∷ cs) = refl
 
--- a text that stands behind no start tag
+-- a text that stands after no start tag
 pub none_content : (s : List ℕ) → ink_content [] s ≡ ink_text false s
 none_content s =
     ap (λ b. cond b s (newline (takes_newline []) s ++ ink_text false s)) literal_none

@@ -1,11 +1,11 @@
--- What calls add to an output, one behind the other.
+-- What calls add to an output, one after the other.
 use Rattle.std.proofs.Common.{◌≡◌, ℕ, ◌+◌, ◌<◌, List, [], ◌++◌, length, true, false, refl, sym, ◌∙◌, ap, subst, arith, string_bytes, encode_utf8_all, append_assoc, length-append, Ok, Err, Result, OnOk}
 use Rattle.std.specs.Bool.{MatchBool}
 use Rattle.std.proofs.lemmas.List.{append-nil}
 use Rattle.std.proofs.lemmas.Str.{encodes-append}
 use Rattle.markup_out.specs.declared.output.Output.{Output}
 use Rattle.markup_out.proofs.NameLemmas.{is_ascii, ascii_bytes}
-use Rattle.markup_out.specs.Adding.{limit_of, Holds, AddsBytes, Adds}
+use Rattle.markup_out.specs.inner.Adding.{limit_of, Holds, AddsBytes, Adds}
 
 -- ---- one push
 
@@ -44,7 +44,7 @@ grows o n bytes h k same left = record {
   each = λ was w. holds_within n (was ++ bytes) k (same ∙ ap (λ t. t ++ bytes) (held_within o was h w));
 }
 
--- ---- one behind the other
+-- ---- one after the other
 
 pub adds : (o n : Output) (bytes text : List ℕ) → encode_utf8_all text ≡ bytes → AddsBytes o n bytes → Adds o n text
 adds o n bytes text e a = record { bytes = subst (λ (t : List ℕ). AddsBytes o n t) (sym e) a }

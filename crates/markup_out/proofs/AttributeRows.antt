@@ -1,4 +1,4 @@
--- The attributes of an element stand directly behind it.
+-- The attributes of an element stand directly after it.
 use Rattle.std.proofs.Common.{◌≡◌, ℕ, ◌+◌, ◌-◌, ◌<◌, ◌≤◌, List, [], ◌∷◌, ◌++◌, length, Bool, true, false, cond, eqb, sym, ◌∙◌, ap, subst, arith, inl, inr, ◌⊎◌}
 use Rattle.std.specs.Prelude.{filter, flat_map}
 use Rattle.std.specs.List.{range_with_len}
@@ -12,10 +12,10 @@ use Rattle.doc_model.specs.Document.{Document, row, is_parent, is_attribute, is_
 use Rattle.doc_model.proofs.AxisWalks.{attribute_kind, attribute_walk, not_parent, true_and}
 use Rattle.doc_model.proofs.Below.{small}
 use Rattle.doc_model.proofs.Filters.{upto_more, upto_none, upto_all}
-use Rattle.markup_out.specs.Content.{EndsOwn}
+use Rattle.markup_out.specs.inner.Content.{EndsOwn}
 use Rattle.markup_out.specs.Markup.{attribute_markup, attributes}
 
--- the rows behind x and before r are attributes of x
+-- the rows after x and before r are attributes of x
 abbrev pub AreAttributes : Document → ℕ → ℕ → Type 0
 AreAttributes doc x r = (z : ℕ) → x < z → z < r → (is_attribute doc z ≡ true) × ((row doc z).parent ≡ x)
 

@@ -13,7 +13,7 @@ use Rattle.doc_model.specs.Ends.{IsEnd}
 use Rattle.doc_model.proofs.AxisWalks.{attribute_kind, child_walk, true_and}
 use Rattle.doc_model.proofs.Below.{Small, small, below_cases, below_less, below_parent}
 use Rattle.doc_model.proofs.Filters.{upto, upto_none, none_in}
-use Rattle.markup_out.specs.Content.{before, after, after_of, before_of, content_from, IsNextChild, EndsOwn, Begins}
+use Rattle.markup_out.specs.inner.Content.{before, after, after_of, before_of, content_from, IsNextChild, EndsOwn, Begins}
 use Rattle.markup_out.specs.Markup.{children, begins_newline, newline_first, start_tag, newline, end_tag, markup_of, styled}
 use Rattle.markup_out.specs.Names.{is_void}
 use Rattle.markup_out.proofs.Levels.{child_behind, markup_of_rows}
@@ -169,7 +169,7 @@ begins_void back doc x e d k void end = record {
       ∙ ap (λ j. before_of back j doc x ++ (content_from back doc x e ++ after_of j doc x)) (sym k);
 }
 
--- the row behind the attributes is a child, or nothing more is below
+-- the row after the attributes is a child, or nothing more is below
 own_parent : (doc : Document) (x e : ℕ) → IsDocument doc → EndsOwn doc x e → e < length doc → below doc x e ≡ true → (row doc e).parent ≡ x
 own_parent doc x e d own within b = let behind : x < e = own.ends.after in at (below_cases doc x e (small doc d) b) (nested_cases doc e d (omega arith) within) (cases_lt x (e - 1))
   where
@@ -207,7 +207,7 @@ own_next doc x e b d own (inr l) h = let behind : x < e = own.ends.after in inr 
 no_child_own : (doc : Document) (x e z : ℕ) → IsDocument doc → EndsOwn doc x e → z < e → on_axis doc axis.Child x z ≡ false
 no_child_own doc x e z d own l = elim (cases_lt x z) [ inl k ↦ no_child_attribute doc x z (own.ends.inside z k l) | inr k ↦ no_child_before doc x z (small doc d) k ]
 
--- the first child, or none, directly behind the attributes
+-- the first child, or none, directly after the attributes
 first_child : (doc : Document) (x e : ℕ) → IsDocument doc → EndsOwn doc x e → on_axis doc axis.Child x e ≡ true → e < length doc
     → children doc x ≡ e ∷ filter (on_axis doc axis.Child x) (range_with_len (e + 1) (length doc - e - 1))
 first_child doc x e d own child l =

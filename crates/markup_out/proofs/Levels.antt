@@ -10,7 +10,7 @@ use Rattle.doc_model.proofs.Below.{Small, small}
 use Rattle.markup_out.specs.Laws.{MarkupOfChildren}
 use Rattle.markup_out.specs.Markup.{children, markup_of, markup_within, styled}
 
--- a child stands behind its parent
+-- a child stands after its parent
 pub child_behind : (doc : Document) (x y : ℕ) → Small doc → on_axis doc axis.Child x y ≡ true → x < y
 child_behind doc x y m h =
     let two = and_parts _ _ (and_parts _ _ h).1 in
@@ -57,7 +57,7 @@ levels_are back doc y = refl
 levels_at : (n : ℕ) (back : Bool) (doc : Document) (y : ℕ) → Small doc → length doc ≡ suc n → 0 < y → markup_within n back doc y ≡ styled back doc y
 levels_at n back doc y m e some = sym (one_more n back doc y m (omega arith)) ∙ ap (λ k. markup_within k back doc y) (sym e) ∙ levels_are back doc y
 
--- the markup of a row is made of the markup of its children, where rows stand behind their parents
+-- the markup of a row is made of the markup of its children, where rows stand after their parents
 pub markup_of_rows : (back : Bool) (doc : Document) (x : ℕ) → Small doc → 0 < length doc → styled back doc x ≡ markup_of back (row doc x).kind doc x (flat_map (styled back doc) (children doc x))
 markup_of_rows back doc x m some =
     let n : ℕ = length doc - 1 in

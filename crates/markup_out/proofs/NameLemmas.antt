@@ -9,7 +9,7 @@ use Rattle.std.proofs.lemmas.Slice.Eq.{bytes_eq-Decides}
 use Rattle.std.proofs.lemmas.Str.{chars-IsAscii, encodes-IsAscii, encodes-chars, inside_one, encode_ascii, length-encode, len_utf8_bounds}
 use Rattle.std.proofs.lemmas.Str.Ascii.{IsAscii-from_all}
 use Rattle.markup_out.specs.Markup.{begins_newline}
-use Rattle.markup_out.specs.Names.{is_one_of, void_names, raw_names, newline_names, is_void, is_raw, takes_newline}
+use Rattle.markup_out.specs.Names.{is_one_of, void_names, literal_names, newline_names, is_void, is_raw, takes_newline}
 
 abbrev pub is_ascii : List ℕ → Bool
 is_ascii name = list_all (λ c. ltb c 128) name
@@ -40,8 +40,8 @@ unfolding void_names
 void_same bytes u = one_of_same void_names bytes refl u
 
 pub raw_same : (bytes : List ℕ) → IsUtf8 bytes → is_raw bytes ≡ is_raw (chars bytes)
-unfolding raw_names
-raw_same bytes u = one_of_same raw_names bytes refl u
+unfolding literal_names
+raw_same bytes u = one_of_same literal_names bytes refl u
 
 pub newline_same : (bytes : List ℕ) → IsUtf8 bytes → takes_newline bytes ≡ takes_newline (chars bytes)
 unfolding newline_names

@@ -13,8 +13,8 @@ use Rattle.doc_model.proofs.AxisWalks.{parent_from}
 use Rattle.doc_model.proofs.Below.{Small, small, below_cases, below_less, below_parent, below_up, below_trans, below_line, before_end}
 use Rattle.doc_model.proofs.Filters.{from_to, none_in, single}
 use Rattle.markup_out.specs.declared.output.Output.{Output}
-use Rattle.markup_out.specs.Adding.{Adds}
-use Rattle.markup_out.specs.Content.{before, after, content_from, IsNextChild, Begins}
+use Rattle.markup_out.specs.inner.Adding.{Adds}
+use Rattle.markup_out.specs.inner.Content.{before, after, content_from, IsNextChild, Begins}
 use Rattle.markup_out.specs.Markup.{styled}
 use Rattle.markup_out.proofs.AddingLemmas.{both, same, adds_over}
 use Rattle.markup_out.proofs.ContentRows.{child_parent, child_no_attribute, nested_cases, on_child, no_content}
@@ -22,8 +22,8 @@ use Rattle.markup_out.proofs.AttributeRows.{before_cases}
 use Rattle.markup_out.proofs.Levels.{child_behind}
 use Rattle.std.proofs.Math.Nat.{mul-le-mul_left, mul-add}
 
--- What is written behind the content of x up to the end of the markup of i, where x is i or below it: what stands
--- after x, then the children of its parent behind it, and so on upwards.
+-- What is written after the content of x up to the end of the markup of i, where x is i or below it: what stands
+-- after x, then the children of its parent after it, and so on upwards.
 pub data IsRest (back : Bool) (doc : Document) (i : ℕ) : ℕ → List ℕ → Type 0 where
   last : IsRest back doc i i (after doc i)
   further : (x : ℕ) (rest : List ℕ) → (x ≡ i → ⊥) → on_axis doc axis.Child (row doc x).parent x ≡ true → x < length doc → IsRest back doc i (row doc x).parent rest
@@ -67,7 +67,7 @@ next_child doc x y e end l (inr f) =
     let known : y < length doc = (let w = end.within in omega arith) in
     absurd (both_ways _ (f.outside known) (end.inside y f.after l))
 
--- the child y, and then those behind it
+-- the child y, and then those after it
 child_first : (back : Bool) (doc : Document) (x y : ℕ) → on_axis doc axis.Child x y ≡ true → y < length doc → content_from back doc x y ≡ styled back doc y ++ content_from back doc x (y + 1)
 child_first back doc x y k l =
     let p = on_axis doc axis.Child x in
@@ -133,7 +133,7 @@ past_below back doc p x y d child l within inside =
     let is : (row doc z).parent ≡ p = child_parent doc p z c in
     omega arith))))
 
--- ---- the row behind a child and what is below it
+-- ---- the row after a child and what is below it
 
 module _ (doc : Document) (p x y : ℕ) (d : IsDocument doc) (child : on_axis doc axis.Child p x ≡ true) (end : IsEnd doc x y) (within : y < length doc) (under : below doc p y ≡ true) where
   m : Small doc
@@ -198,7 +198,7 @@ module _ (doc : Document) (p x y : ℕ) (d : IsDocument doc) (child : on_axis do
   pub sibling : on_axis doc axis.Child p y ≡ true
   sibling = on_child doc p y (let k : x < y = end.after in omega arith) no_attribute parent_above
 
--- behind a child stands the next one, or the rows below the parent end there
+-- after a child stands the next one, or the rows below the parent end there
 next_sibling : (doc : Document) (p x y e : ℕ) → IsDocument doc → on_axis doc axis.Child p x ≡ true → x < length doc → IsEnd doc x y → IsEnd doc p e → (y < e) ⊎ (e ≤ y) → IsNextChild doc p y
 next_sibling doc p x y e d child inside end outer (inl l) =
     let m = small doc d in

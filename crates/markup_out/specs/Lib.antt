@@ -1,7 +1,5 @@
-pub mod Adding
-pub mod Content
 pub mod Escapes
 pub mod Laws
 pub mod Markup
 pub mod Names
-pub mod Views
+pub mod inner

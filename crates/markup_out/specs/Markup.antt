@@ -41,7 +41,7 @@ abbrev pub newline_first : Document → List ℕ → Bool
 newline_first doc [] = false
 newline_first doc (y ∷ ys) = is_text doc y && begins_newline (row doc y).text
 
--- The LF behind the start tag of an element that takes one away, where its content begins with one (HTML, section 13.3).
+-- The LF after the start tag of an element that takes one away, where its content begins with one (HTML, section 13.3).
 abbrev pub newline : Bool → Document → ℕ → List ℕ
 newline back doc x = if back && (takes_newline (row doc x).name && newline_first doc (children doc x)) then 10 ∷ [] else []
 
@@ -58,7 +58,7 @@ unfoldable pub markup_within : ℕ → Bool → Document → ℕ → List ℕ
 markup_within zero back doc x = []
 markup_within (suc levels) back doc x = markup_of back (row doc x).kind doc x (flat_map (markup_within levels back doc) (children doc x))
 
--- The markup of x in either style. Rows stand behind their parents, so a document has no more levels than rows.
+-- The markup of x in either style. Rows stand after their parents, so a document has no more levels than rows.
 unfoldable pub styled : Bool → Document → ℕ → List ℕ
 styled back doc x = markup_within (length doc) back doc x
 

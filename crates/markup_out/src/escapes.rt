@@ -2,7 +2,7 @@
 ghost use Rattle.std.specs.Prelude.{◌≡◌, OnOk};
 ghost use Rattle.std.specs.List.{list_any};
 ghost use Rattle.std.specs.Str.{chars};
-ghost use Rattle.markup_out.specs.Adding.{Adds};
+ghost use Rattle.markup_out.specs.inner.Adding.{Adds};
 ghost use Rattle.markup_out.specs.Escapes.{text_escape, value_escape, escape, is_mark, escaped};
 
 use crate::output::Output;

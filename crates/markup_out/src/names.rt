@@ -2,18 +2,10 @@
 ghost use Rattle.std.specs.Prelude.{◌≡◌};
 ghost use Rattle.std.specs.Str.{chars};
 ghost use Rattle.markup_out.specs.Names.{is_one_of, is_void, is_raw, takes_newline};
-ghost use Rattle.markup_out.specs.Views.{texts};
+ghost use Rattle.html_lexer.specs.Names.{texts};
 
+use html_lexer::{literal_names, newline_names, void_names};
 use text_base::is_same;
-
-static VOID: [&str; 14] = [
-    "area", "base", "br", "col", "embed", "hr", "img", "input", "link", "meta", "param", "source",
-    "track", "wbr",
-];
-
-static NEWLINE: [&str; 3] = ["pre", "textarea", "listing"];
-
-static RAW: [&str; 6] = ["script", "style", "iframe", "xmp", "noembed", "noframes"];
 
 fn is_one_of(names: &[&str], name: &str) -> bool
     ensures { result ≡ is_one_of (texts names.now) name.now }
@@ -30,19 +22,19 @@ fn is_one_of(names: &[&str], name: &str) -> bool
 pub fn is_void(name: &str) -> bool
     ensures { result ≡ is_void (chars name.now) }
 {
-    is_one_of(&VOID, name)
+    is_one_of(void_names(), name)
 }
 
 /// Whether texts in the element are written as they are.
 pub fn is_raw(name: &str) -> bool
     ensures { result ≡ is_raw (chars name.now) }
 {
-    is_one_of(&RAW, name)
+    is_one_of(literal_names(), name)
 }
 
 /// Whether a newline at the beginning of the element's content does not count.
 pub fn takes_newline(name: &str) -> bool
     ensures { result ≡ takes_newline (chars name.now) }
 {
-    is_one_of(&NEWLINE, name)
+    is_one_of(newline_names(), name)
 }

@@ -1,6 +1,6 @@
 //! A text that grows up to a limit.
 ghost use Rattle.std.specs.Prelude.{◌≡◌, [], true, false, encode_utf8, OnOk, MatchOption};
-ghost use Rattle.markup_out.specs.Adding.{AddsBytes, Holds, limit_of};
+ghost use Rattle.markup_out.specs.inner.Adding.{AddsBytes, Holds, limit_of};
 
 use std::alloc::Global;
 use text_base::NoMemory;

@@ -1,23 +1,16 @@
 //! What stands before and after the content of a row.
 ghost use Rattle.std.specs.Prelude.{◌≡◌, ◌<◌, length, flat_map, OnOk, IfOk};
-ghost use Rattle.doc_model.specs.Document.{row, is_attribute};
+ghost use Rattle.doc_model.specs.Document.{row};
 ghost use Rattle.doc_model.specs.declared.Kind.TheVariants as kind;
-ghost use Rattle.markup_out.specs.Adding.{Adds};
-ghost use Rattle.markup_out.specs.Content.{before, before_of, after, Begins, EndsOwn};
+ghost use Rattle.markup_out.specs.inner.Adding.{Adds};
+ghost use Rattle.markup_out.specs.inner.Content.{before, before_of, after, Begins, EndsOwn};
 ghost use Rattle.markup_out.specs.Markup.{children, attribute_markup, attributes, start_tag, newline_first, newline, end_tag, text_markup, comment_markup};
 
 use crate::escapes::push_escaped;
 use crate::names::{is_raw, is_void, takes_newline};
 use crate::output::Output;
-use doc_model::{Kind, Tree};
+use doc_model::{Kind, Tree, is_attribute};
 use text_base::{NoMemory, byte_at};
-
-fn is_attribute<T: Tree>(tree: &T, r: u32) -> bool
-    requires { r < length (T.document tree.now) }
-    ensures { result ≡ is_attribute (T.document tree.now) r }
-{
-    matches!(tree.kind(r), Kind::Attribute)
-}
 
 /// ` name="value"`
 fn push_attribute<T: Tree>(tree: &T, r: u32, back: bool, out: &mut Output) -> Result<(), NoMemory>
@@ -78,7 +71,7 @@ fn newline_first<T: Tree>(tree: &T, x: u32, y: u32) -> bool
     }
 }
 
-/// Writes the newline behind the start tag of an element whose content begins with one that would not count.
+/// Writes the newline after the start tag of an element whose content begins with one that would not count.
 fn push_newline<T: Tree>(
     tree: &T,
     x: u32,

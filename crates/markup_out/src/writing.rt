@@ -1,7 +1,7 @@
 //! The markup of a row.
 ghost use Rattle.std.specs.Prelude.{◌≡◌, ◌<◌, ◌≤◌, length, string_bytes, encode_utf8_all, IfOk, OnOk, IfErr};
 ghost use Rattle.std.specs.Str.{chars};
-ghost use Rattle.markup_out.specs.Adding.{Adds};
+ghost use Rattle.markup_out.specs.inner.Adding.{Adds};
 ghost use Rattle.markup_out.specs.Markup as spec;
 
 use crate::output::Output;

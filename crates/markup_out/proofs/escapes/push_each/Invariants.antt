@@ -1,4 +1,4 @@
-use Rattle.markup_out.specs.Adding.{Adds}
+use Rattle.markup_out.specs.inner.Adding.{Adds}
 use Rattle.markup_out.specs.Escapes.{escaped}
 use Rattle.markup_out.proofs.escapes.push_each.Given as goal
 

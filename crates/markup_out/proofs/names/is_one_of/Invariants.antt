@@ -1,6 +1,6 @@
 use Rattle.std.specs.Prelude.{◌≡◌, drop}
 use Rattle.markup_out.specs.Names.{is_one_of}
-use Rattle.markup_out.specs.Views.{texts}
+use Rattle.html_lexer.specs.Names.{texts}
 use Rattle.markup_out.proofs.names.is_one_of.Given as goal
 
 abbrev pub invariant-loop-entry : goal.invariant-loop-entry

@@ -1,5 +1,5 @@
 use Rattle.std.proofs.Common.{◌≤◌, ◌<◌, ◌-◌}
-use Rattle.markup_out.specs.Adding.{Adds}
+use Rattle.markup_out.specs.inner.Adding.{Adds}
 use Rattle.markup_out.proofs.AttributeRows.{AreAttributes, attributes_before}
 use Rattle.markup_out.proofs.tags.push_attributes.Given as goal
 

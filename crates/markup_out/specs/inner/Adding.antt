@@ -11,7 +11,7 @@ limit_of o = length (string_bytes o.text) + o.left
 abbrev pub Holds : Output → List ℕ → Type 0
 Holds o bytes = MatchBool o.over (limit_of o < length bytes) (string_bytes o.text ≡ bytes)
 
--- these bytes were written behind what was written before
+-- these bytes were written after what was written before
 pub record AddsBytes (old new : Output) (bytes : List ℕ) : Type 0 where
   pub limit : limit_of new ≡ limit_of old
   pub each : (was : List ℕ) → Holds old was → Holds new (was ++ bytes)
