@@ -1,17 +1,16 @@
 -- Reading from the right and from the left come to the same.
 use Rattle.std.proofs.Common.{◌≡◌, refl, ℕ, true, ◌&&◌, ◌||◌, eqb, List, [], ◌∷◌, ap, sym, ◌∙◌, ◌<◌, length, zero, suc, arith}
-use Rattle.std.specs.Prelude.{Option, Some, None, map, reverse}
+use Rattle.std.specs.Prelude.{Option, None}
 use mathlib.Core.List.{reverse_aux}
 use Rattle.std.specs.List.{list_any}
 use Rattle.doc_model.specs.Document.{Document, rows, below, IsDocument}
 use Rattle.doc_model.proofs.Below.{small, root_above}
 use Rattle.css_selectors.specs.declared.selector.Dialect.{Dialect}
 use Rattle.css_selectors.specs.declared.selector.Part.{Part, out-Part}
-use Rattle.css_meaning.specs.Holding.{holds, tied, goes_on}
+use Rattle.css_meaning.specs.Holding.{holds}
 use Rattle.css_meaning.specs.Links.{linked}
 use Rattle.css_meaning.specs.Matching.{leads, reaches_by, matches_back, matches_by}
-use Rattle.css_meaning.specs.Searching.{is_end, leads_back}
-use Rattle.css_meaning.proofs.HoldsAt.{link_of}
+use Rattle.css_meaning.specs.inner.Searching.{leads_back}
 use Rattle.css_meaning.proofs.ListTests as Tests
 use Rattle.css_meaning.proofs.ListTests.{is_in}
 use Rattle.css_meaning.proofs.Finding.{in_rows}

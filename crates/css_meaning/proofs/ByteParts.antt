@@ -14,7 +14,7 @@ bool_same true b f g = sym (f refl)
 bool_same false true f g = g refl
 bool_same false false f g = refl
 
--- v at this place among the characters, and what stands behind it in bytes
+-- v at this place among the characters, and what stands after it in bytes
 record Cut (x v after : List ℕ) : Type 0 where
   ahead : List ℕ
   rest : List ℕ

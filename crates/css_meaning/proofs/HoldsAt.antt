@@ -1,5 +1,5 @@
 -- What each form of selector asks of an element, one level at a time.
-use Rattle.std.proofs.Common.{◌≡◌, refl, sym, ◌∙◌, ap, ℕ, ℤ, Bool, true, ◌&&◌, not, cond, List, [], ◌∷◌, map, Option, codes, subst}
+use Rattle.std.proofs.Common.{◌≡◌, sym, ◌∙◌, ap, ℕ, ℤ, true, ◌&&◌, not, cond, List, map, Option, codes}
 use Rattle.std.specs.List.{list_any, list_all}
 use Rattle.std.proofs.lemmas.Bool.{and_parts}
 use Rattle.std.proofs.lemmas.List.Folds.{list_all-map}

@@ -12,9 +12,9 @@ use Rattle.css_meaning.proofs.Finding.{found, finds}
 use Rattle.css_meaning.proofs.HoldsAt.{held_element}
 use Rattle.css_meaning.specs.Holding.{holds}
 use Rattle.css_meaning.specs.Links.{linked}
-use Rattle.css_meaning.specs.Searching.{is_end, leads_back, is_matched}
+use Rattle.css_meaning.specs.inner.Searching.{is_end, leads_back, is_matched}
 
--- p stands behind the first `left` parts, of which there are some, and `next` counts it too
+-- p stands after the first `left` parts, of which there are some, and `next` counts it too
 pub record IsStep (parts : List Part) (left next : ℕ) (p : Part) : Type 0 where
   pub some : 0 < left
   pub counts : next ≡ suc left

@@ -9,7 +9,7 @@ use Rattle.doc_model.proofs.WalkSteps.{IsOver, none_above, over_within}
 use Rattle.css_selectors.specs.declared.selector.Dialect.{Dialect}
 use Rattle.css_meaning.specs.Attributes.{has_value, lang_test}
 use Rattle.css_meaning.specs.Language.{lang_name, gives_language, is_nearest_language, lang_holds}
-use Rattle.css_meaning.specs.Nearest.{says}
+use Rattle.css_meaning.specs.inner.Nearest.{says}
 use Rattle.css_meaning.proofs.ByteParts.{bool_same}
 use Rattle.css_meaning.proofs.Finding as finding
 use Rattle.css_meaning.proofs.FoundValues.{named, value_found}

@@ -7,7 +7,7 @@ use Rattle.std.proofs.Common.{lt-ltb, refl}
 use Rattle.doc_model.specs.Document.{Document, row, is_parent, below}
 use Rattle.doc_model.proofs.Below.{Small, below_cases, below_parent, below_trans}
 use Rattle.css_meaning.proofs.Earlier.{Earlier, is_earlier_from, Nearest}
-use Rattle.css_meaning.specs.Searching.{is_outer}
+use Rattle.css_meaning.specs.inner.Searching.{is_outer}
 
 -- ---- the measure falls
 

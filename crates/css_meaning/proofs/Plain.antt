@@ -1,5 +1,5 @@
 -- Answers of selectors whose parts are written as functions, on which they compute.
-use Rattle.std.proofs.Common.{◌≡◌, refl, sym, ◌∙◌, ap, ℕ, Bool, true, false, ◌&&◌, ◌||◌, not, eqb, List, [], ◌∷◌, map, filter, Option, ℤ}
+use Rattle.std.proofs.Common.{◌≡◌, refl, sym, ◌∙◌, ap, ℕ, Bool, false, ◌&&◌, ◌||◌, not, eqb, List, [], ◌∷◌, map, filter, Option, ℤ}
 use Rattle.std.specs.List.{list_any}
 use Rattle.doc_model.specs.Document.{Document, rows, below}
 use Rattle.css_selectors.specs.declared.selector.Compound.{Compound}
@@ -7,7 +7,7 @@ use Rattle.css_selectors.specs.declared.selector.Dialect.{Dialect}
 use Rattle.css_selectors.specs.declared.selector.Link.{Link}
 use Rattle.css_selectors.specs.declared.selector.Nth.{Nth}
 use Rattle.css_selectors.specs.declared.selector.Op.{Op}
-use Rattle.css_selectors.specs.declared.selector.Part.{Part, out-Part}
+use Rattle.css_selectors.specs.declared.selector.Part.{Part}
 use Rattle.css_selectors.specs.declared.selector.Pseudo.{Pseudo}
 use Rattle.css_selectors.specs.declared.selector.Relative.{Relative, roll-Relative}
 use Rattle.css_selectors.specs.declared.selector.Selector.{Selector}

@@ -1,6 +1,6 @@
 -- The parts of a relative lead on from a row where some row leads back to it.
-use Rattle.std.proofs.Common.{◌≡◌, refl, ℕ, ◌+◌, ◌<◌, ◌≤◌, true, false, ◌&&◌, Bool, zero, suc, eqb, List, [], ◌∷◌, ap, sym, ◌∙◌, length, arith, map}
-use Rattle.std.specs.Prelude.{Option, Some, reverse}
+use Rattle.std.proofs.Common.{◌≡◌, refl, ℕ, ◌<◌, true, false, ◌&&◌, Bool, suc, eqb, List, [], ◌∷◌, ap, sym, ◌∙◌, length, arith, map}
+use Rattle.std.specs.Prelude.{Some, reverse}
 use Rattle.std.specs.Cmp.{both_ways as same_tests}
 use Rattle.std.specs.List.{list_any}
 use Rattle.std.proofs.lemmas.Bool.{eqb-true, eq-eqb, eqb-false}
@@ -11,12 +11,12 @@ use Rattle.css_selectors.specs.declared.selector.Relative.{Relative, out-Relativ
 use Rattle.css_meaning.specs.Holding.{holds, tied, goes_on, relative_holds}
 use Rattle.css_meaning.specs.Links.{linked}
 use Rattle.css_meaning.specs.Matching.{leads}
-use Rattle.css_meaning.specs.Searching.{leads_back}
+use Rattle.css_meaning.specs.inner.Searching.{leads_back}
 use Rattle.css_meaning.proofs.Backwards.{back}
 use Rattle.css_meaning.proofs.HoldsAt.{link_of, at_relative}
 use Rattle.css_meaning.proofs.ListTests as Tests
 use Rattle.css_meaning.proofs.ListTests.{is_in}
-use Rattle.css_meaning.proofs.Finding.{in_rows, row_within}
+use Rattle.css_meaning.proofs.Finding.{in_rows}
 
 module _ (doc : Document) (d : Dialect) where
   -- the parts go on from x where they lead from it to some row

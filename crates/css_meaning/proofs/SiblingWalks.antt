@@ -12,7 +12,7 @@ use Rattle.doc_model.proofs.WalkSteps.{one_if}
 use Rattle.css_selectors.specs.declared.selector.Nth.{Nth}
 use Rattle.css_selectors.specs.declared.selector.Nth.TheVariants as nth
 use Rattle.css_meaning.specs.Siblings.{is_sibling, position}
-use Rattle.css_meaning.specs.SiblingWalks.{is_like, is_by_name, is_on_side, is_counted, IsSpan, IsBehind}
+use Rattle.css_meaning.specs.inner.SiblingWalks.{is_like, is_by_name, is_on_side, is_counted, IsSpan, IsBehind}
 use Rattle.css_meaning.proofs.Finding.{found, finds}
 
 -- ---- who is no child

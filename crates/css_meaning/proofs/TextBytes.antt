@@ -3,7 +3,7 @@ use Rattle.std.proofs.Common.{◌≡◌, refl, ℕ, ◌+◌, ◌<◌, ◌/◌, �
 use Rattle.std.specs.Prelude.{encode_utf8}
 use Rattle.std.proofs.lemmas.Bool.{and_left, and_right, and_from, cond-true, cond-false, and_parts, or_from, cases_lt, le-leb, lt-ltb, lt-leb, le-ltb, ne_eqb, both_ways}
 use Rattle.text_base.specs.Strings.{starts_with, contains}
-use Rattle.css_meaning.specs.TextPlaces.{begins_in}
+use Rattle.css_meaning.specs.inner.TextPlaces.{begins_in}
 use Rattle.css_meaning.proofs.ListTests.{or_false}
 use Rattle.css_meaning.proofs.ByteParts.{starts_bytes}
 use Rattle.css_meaning.proofs.TextTests.{no_part}

@@ -7,7 +7,7 @@ use Rattle.text_base.specs.Text.{is_space5, run_end}
 use Rattle.text_base.specs.Words.{words_by}
 use Rattle.text_base.proofs.Runs.{run_end_stops, run_end_moves}
 use Rattle.text_base.proofs.WordLemmas.{words_on, word_at}
-use Rattle.css_meaning.specs.Kinds.{not_space5}
+use Rattle.css_meaning.specs.inner.Kinds.{not_space5}
 
 fails : (a : Bool) → not a ≡ true → a ≡ false
 fails true h = absurd (let no : false ≡ true = h in cc)
@@ -18,7 +18,7 @@ passes true h = refl
 passes false h = absurd (let no : true ≡ false = h in cc)
 
 module _ (text wanted : List ℕ) where
-  -- behind white space stands none
+  -- after white space stands none
   pub behind_space : (i j : ℕ) → j ≡ run_end is_space5 text i → j < length text → is_space5 (get_or text j 0) ≡ false
   behind_space i j e l = ap (λ n. is_space5 (get_or text n 0)) e ∙ run_end_stops is_space5 text i (omega arith)
 

@@ -1,5 +1,5 @@
 -- The worked answers, by parts that compute.
-use Rattle.std.proofs.Common.{◌≡◌, refl, ◌∙◌, ap, ℕ, List, [], ◌∷◌, map, Some, None, codes}
+use Rattle.std.proofs.Common.{◌≡◌, refl, ◌∙◌, [], ◌∷◌, map, Some, None, codes}
 use Rattle.std.specs.Prelude.{pos, negsuc}
 use Rattle.doc_model.specs.Document.{below_within}
 use Rattle.css_selectors.specs.declared.selector.Dialect.TheVariants.{Generic, Html}

@@ -5,20 +5,14 @@ use Rattle.std.specs.List.{list_any}
 use Rattle.std.specs.Str.{bytes_eq}
 use Rattle.text_base.specs.Text.{is_space5}
 use Rattle.text_base.specs.Strings.{is_empty, starts_with, ends_with, contains, is_among, runs}
-use Rattle.doc_model.specs.Document.{Document, row, rows, is_attribute, is_parent}
+pub use Rattle.doc_model.specs.Attributes.{is_attribute_of, has_value}
+use Rattle.doc_model.specs.Document.{Document}
 use Rattle.css_selectors.specs.declared.selector.Dialect.{Dialect}
 use Rattle.css_selectors.specs.declared.selector.Op.{Op}
 use Rattle.css_selectors.specs.declared.selector.Op.TheVariants as op
 use Rattle.css_meaning.specs.Names.{folded}
 
--- r is the attribute of e with this name
-abbrev pub is_attribute_of : Document → ℕ → List ℕ → ℕ → Bool
-is_attribute_of doc e name r = is_attribute doc r && (is_parent doc e r && bytes_eq (row doc r).name name)
-
--- e has the attribute, and its value passes the test
-abbrev pub has_value : Document → ℕ → List ℕ → (List ℕ → Bool) → Bool
-has_value doc e name test = list_any (λ r. is_attribute_of doc e name r && test (row doc r).text) (rows doc)
-
+-- e has the attribute
 abbrev pub has_attribute : Document → ℕ → List ℕ → Bool
 has_attribute doc e name = has_value doc e name (λ value. true)
 

@@ -1,11 +1,11 @@
 -- A small document and what some selectors give on it.
-use Rattle.std.specs.Prelude.{◌≡◌, ℕ, List, [], ◌∷◌, Option, Some, None, codes}
+use Rattle.std.specs.Prelude.{◌≡◌, ℕ, List, [], ◌∷◌, Some, None, codes}
 use Rattle.doc_model.specs.Document.{Document, Row}
 use Rattle.doc_model.specs.declared.Kind.TheVariants as kind
 use Rattle.css_selectors.specs.declared.selector.Dialect.TheVariants.{Generic, Html}
 use Rattle.css_selectors.specs.declared.selector.Link.TheVariants as link
 use Rattle.css_selectors.specs.declared.selector.Op.TheVariants as op
-use Rattle.css_selectors.specs.declared.selector.Relative.{Relative, roll-Relative}
+use Rattle.css_selectors.specs.declared.selector.Relative.{roll-Relative}
 use Rattle.css_selectors.specs.declared.selector.Selector.{Selector}
 use Rattle.css_selectors.specs.declared.selector.Test.TheVariants as test
 use Rattle.css_selectors.specs.declared.selector.Weight.TheVariants as weight

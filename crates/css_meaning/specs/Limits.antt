@@ -1,12 +1,7 @@
 -- The documents on which a printed selector is promised to mean what the selector means.
-use Rattle.std.specs.Prelude.{◌≡◌, ℕ, ◌^◌, ◌<◌, Bool, true, false, ◌==◌, IsTrue, length}
+use Rattle.std.specs.Prelude.{◌≡◌, ℕ, ◌^◌, ◌<◌, Bool, false, ◌==◌, IsTrue, length}
 use Rattle.std.specs.List.{list_any}
 use Rattle.doc_model.specs.Document.{Document, row, is_attribute}
-use Rattle.css_selectors.specs.declared.selector.SelectorList.{SelectorList}
-use Rattle.css_selectors.specs.declared.selector.Op.{Op}
-use Rattle.css_selectors.specs.declared.selector.Op.TheVariants as op
-use Rattle.css_selectors.specs.declared.selector.Test.{Test}
-use Rattle.css_selectors.specs.declared.selector.Test.TheVariants as test
 
 abbrev pub is_form_feed : ℕ → Bool
 is_form_feed c = c == 12

@@ -30,7 +30,7 @@ pub record Occurs (x v : List ℕ) : Type 0 where
   pub is : x ≡ ahead ++ (v ++ after)
 
 -- v is a part of x that is not empty and has no character that passes the test, and no longer such part of x goes
--- round it: before it stands nothing or a character that passes, and behind it too
+-- round it: before it stands nothing or a character that passes, and after it too
 pub record IsRun (p : ℕ → Bool) (x v : List ℕ) : Type 0 where
   pub ahead : List ℕ
   pub after : List ℕ

@@ -1,22 +1,14 @@
 -- What the pseudo-classes without an argument ask of an element e. Selectors Level 3, section 6.6.
-use Rattle.std.specs.Prelude.{ℕ, Bool, false, ◌&&◌, ◌||◌, not, if◌then◌else◌, List, [], ◌∷◌, codes}
+use Rattle.std.specs.Prelude.{ℕ, Bool, false, ◌&&◌, ◌||◌, not, List, [], ◌∷◌, codes}
 use Rattle.std.specs.List.{list_any}
-use Rattle.text_base.specs.Strings.{contains, is_among}
+use Rattle.text_base.specs.Strings.{is_among}
 use Rattle.doc_model.specs.Document.{Document, row, rows, is_element, is_text, is_parent}
-use Rattle.doc_model.specs.StringValue.{string_value}
 use Rattle.css_selectors.specs.declared.selector.Dialect.{Dialect}
 use Rattle.css_selectors.specs.declared.selector.Dialect.TheVariants.{Generic, Html}
-use Rattle.css_selectors.specs.declared.selector.Op.TheVariants as op
 use Rattle.css_selectors.specs.declared.selector.Pseudo.{Pseudo}
 use Rattle.css_selectors.specs.declared.selector.Pseudo.TheVariants as pseudo
-use Rattle.css_selectors.specs.declared.selector.Simple.{Simple}
-use Rattle.css_selectors.specs.declared.selector.Test.{Test}
-use Rattle.css_selectors.specs.declared.selector.Test.TheVariants as test
-use Rattle.css_meaning.specs.Names.{has_name}
-use Rattle.css_meaning.specs.Nth.{is_nth}
-use Rattle.css_meaning.specs.Siblings.{is_sibling, is_of_type, is_only, position}
-use Rattle.css_meaning.specs.Attributes.{has_attribute, has_value, attribute_holds}
-use Rattle.css_meaning.specs.Language.{lang_holds}
+use Rattle.css_meaning.specs.Siblings.{is_sibling, is_of_type, is_only}
+use Rattle.css_meaning.specs.Attributes.{has_attribute, has_value}
 
 -- no child of e is an element or a text: section 6.6.5.12
 abbrev pub is_empty_element : Document → ℕ → Bool

@@ -15,7 +15,7 @@ use text_base::{ByteKind, Space5, is_white, run_end};
 struct NotSpace5;
 
 impl ByteKind for NotSpace5 {
-    ghost use Rattle.css_meaning.specs.Kinds.{not_space5, not_space5_wide};
+    ghost use Rattle.css_meaning.specs.inner.Kinds.{not_space5, not_space5_wide};
 
     ghost test = { λ _. not_space5 };
 

@@ -5,18 +5,11 @@ ghost use Rattle.text_base.specs.Strings.{contains, starts_with};
 ghost use Rattle.doc_model.specs.Document.{is_element, is_text, is_parent};
 ghost use Rattle.doc_model.specs.StringValue.{string_value, texts_below};
 ghost use Rattle.css_meaning.specs.Simples as spec;
-ghost use Rattle.css_meaning.specs.TextPlaces.{text_at, bytes_from, begins_in};
+ghost use Rattle.css_meaning.specs.inner.TextPlaces.{text_at, bytes_from, begins_in};
 
 use crate::texts::includes;
-use doc_model::{Kind, Tree};
+use doc_model::{Kind, Tree, is_parent, is_text};
 use text_base::bytes_from;
-
-fn is_text<T: Tree>(tree: &T, y: u32) -> bool
-    requires { y < length (T.document tree.now) }
-    ensures { result ≡ is_text (T.document tree.now) y }
-{
-    matches!(tree.kind(y), Kind::Text)
-}
 
 /// Whether the row is an element or a text.
 fn is_content<T: Tree>(tree: &T, y: u32) -> bool
@@ -24,13 +17,6 @@ fn is_content<T: Tree>(tree: &T, y: u32) -> bool
     ensures { result ≡ (is_element (T.document tree.now) y || is_text (T.document tree.now) y) }
 {
     matches!(tree.kind(y), Kind::Element | Kind::Text)
-}
-
-fn is_parent<T: Tree>(tree: &T, x: u32, y: u32) -> bool
-    requires { y < length (T.document tree.now) }
-    ensures { result ≡ is_parent (T.document tree.now) x y }
-{
-    y > 0 && tree.parent(y) == x
 }
 
 /// Whether `e` is the root element of the document, or another child of the root node. Selectors
@@ -59,7 +45,7 @@ pub fn is_empty_element<T: Tree>(tree: &T, e: u32) -> bool
     true
 }
 
-/// What is left of the wanted bytes behind a piece of a text that they begin with, or nothing at all
+/// What is left of the wanted bytes after a piece of a text that they begin with, or nothing at all
 /// where the piece and they differ.
 fn left_behind<'a>(piece: &[u8], wanted: &'a [u8]) -> Option<&'a [u8]>
     ensures { MatchOption result ((rest : List ℕ) → starts_with (piece.now ++ rest) wanted.now ≡ false) (λ left. (rest : List ℕ) → starts_with (piece.now ++ rest) wanted.now ≡ starts_with rest left.now) }

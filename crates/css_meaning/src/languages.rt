@@ -2,7 +2,7 @@
 ghost use Rattle.std.specs.Prelude.{◌≡◌, ◌<◌, ℕ, List, length, IfSome};
 ghost use Rattle.std.specs.Str.{chars};
 ghost use Rattle.css_meaning.specs.Language as spec;
-ghost use Rattle.css_meaning.specs.Nearest.{says};
+ghost use Rattle.css_meaning.specs.inner.Nearest.{says};
 
 use crate::attribute_values::is_language;
 use crate::attributes::attribute_named;

@@ -5,15 +5,7 @@ ghost use Rattle.css_meaning.specs.Siblings.{is_earlier, is_nearest_earlier};
 
 use crate::siblings::is_sibling;
 use css_selectors::Link;
-use doc_model::{Kind, Tree};
-
-/// Whether the row is an element.
-pub fn is_element<T: Tree>(tree: &T, y: u32) -> bool
-    requires { y < length (T.document tree.now) }
-    ensures { result ≡ is_element (T.document tree.now) y }
-{
-    matches!(tree.kind(y), Kind::Element)
-}
+use doc_model::{Tree, is_below, is_element, is_parent};
 
 /// The nearest element sibling before the row. Selectors Level 3, section 8.3.1. It looks at the
 /// row before it and climbs from there, so that it costs no more than what it passes.
@@ -38,23 +30,6 @@ pub fn earlier_sibling<T: Tree>(tree: &T, e: u32) -> Option<u32>
         }
     }
     None
-}
-
-/// Whether the row `y` is below `x`.
-fn is_below<T: Tree>(tree: &T, x: u32, y: u32) -> bool
-    requires row { x < length (T.document tree.now) }
-    requires other { y < length (T.document tree.now) }
-    ensures { result ≡ below (T.document tree.now) x y }
-{
-    x < y && y < tree.end(x)
-}
-
-/// Whether `x` is the parent of the row `y`.
-fn is_parent<T: Tree>(tree: &T, x: u32, y: u32) -> bool
-    requires { y < length (T.document tree.now) }
-    ensures { result ≡ is_parent (T.document tree.now) x y }
-{
-    y > 0 && tree.parent(y) == x
 }
 
 /// Whether `x` is an element sibling of the row `y` and stands before it.

@@ -6,19 +6,18 @@ ghost use Rattle.doc_model.specs.Document.{is_element};
 ghost use Rattle.css_meaning.specs.Holding as spec;
 ghost use Rattle.css_meaning.specs.Matching.{matches_by};
 ghost use Rattle.css_meaning.specs.Names as names;
-ghost use Rattle.css_meaning.specs.Searching as search;
+ghost use Rattle.css_meaning.specs.inner.Searching as search;
 
 use crate::attributes::attribute_holds;
 use crate::contents::contains_text;
 use crate::languages::lang_holds;
-use crate::links::is_element;
 use crate::names::has_name;
 use crate::nth::is_nth;
 use crate::pseudo_classes::pseudo_holds;
 use crate::searching::{Outcome, follow, start};
 use crate::siblings::position;
 use css_selectors::{Compound, Dialect, Op, Part, Relative, Selector, Simple, Test};
-use doc_model::Tree;
+use doc_model::{Tree, is_element};
 use text_base::Txt;
 
 /// Whether the test holds at the row. Selectors Level 3, section 6.

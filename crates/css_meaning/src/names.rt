@@ -6,7 +6,7 @@ ghost use Rattle.css_meaning.specs.Names.{folded};
 
 use crate::texts::{is_lowered, is_text};
 use css_selectors::Dialect;
-use doc_model::Tree;
+use doc_model::{Tree, WantedName};
 use text_base::Txt;
 
 /// Whether a name of a document is the one that is written in a selector: in the HTML dialect the
@@ -17,6 +17,21 @@ pub fn is_named(dialect: Dialect, written: &str, name: &str) -> bool
     match dialect {
         Dialect::Generic => is_text(name, written),
         Dialect::Html => is_lowered(name.as_bytes(), written.as_bytes()),
+    }
+}
+
+/// A name as it is written in a selector of the dialect.
+#[derive(Clone, Copy)]
+pub struct Written<'a> {
+    pub dialect: Dialect,
+    pub name: &'a str,
+}
+
+impl<'a> WantedName for Written<'a> {
+    ghost wanted = { λ w. folded w.dialect (chars w.name.now) };
+
+    fn is(&self, name: &str) -> bool {
+        is_named(self.dialect, self.name, name)
     }
 }
 

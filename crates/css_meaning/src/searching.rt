@@ -2,7 +2,7 @@
 ghost use Rattle.std.specs.Prelude.{◌≡◌, ◌<◌, ◌-◌, ℕ, true, false, length, slice_index_or, List, MatchOption, Option, IfSome};
 ghost use Rattle.css_selectors.specs.declared.selector.Part.{out-Part};
 ghost use Rattle.css_meaning.specs.Holding.{holds};
-ghost use Rattle.css_meaning.specs.Searching.{IsSearch, IsOnward, Follows, is_end, is_matched};
+ghost use Rattle.css_meaning.specs.inner.Searching.{IsSearch, IsOnward, Follows, is_end, is_matched};
 
 use crate::links::{earlier_sibling, is_linked};
 use css_selectors::{Dialect, Link, Part};

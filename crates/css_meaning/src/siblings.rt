@@ -3,25 +3,18 @@
 ghost use Rattle.std.specs.Prelude.{◌≡◌, ◌<◌, length, if◌then◌else◌};
 ghost use Rattle.std.specs.Str.{bytes_eq};
 ghost use Rattle.doc_model.specs.Document.{row, is_element};
-ghost use Rattle.css_meaning.specs.SiblingWalks.{is_like, is_by_name, IsBehind, IsSpan};
+ghost use Rattle.css_meaning.specs.inner.SiblingWalks.{is_like, is_by_name, IsBehind, IsSpan};
 ghost use Rattle.css_meaning.specs.Siblings.{is_sibling, is_of_type, is_only};
 ghost use Rattle.css_meaning.specs.Siblings as spec;
 
 use css_selectors::Nth;
-use doc_model::{Kind, Tree};
+use doc_model::{Tree, is_element};
 
 /// The rows from one on and before another.
 #[derive(Clone, Copy)]
 struct Span {
     from: u32,
     to: u32,
-}
-
-fn is_element<T: Tree>(tree: &T, y: u32) -> bool
-    requires { y < length (T.document tree.now) }
-    ensures { result ≡ is_element (T.document tree.now) y }
-{
-    matches!(tree.kind(y), Kind::Element)
 }
 
 /// Whether `y` is an element with the parent of `e`.
@@ -57,7 +50,7 @@ fn is_by_name(kind: Nth) -> bool
     matches!(kind, Nth::OfType | Nth::LastOfType)
 }
 
-/// The first row behind `e` that may be a sibling of it.
+/// The first row after `e` that may be a sibling of it.
 fn behind<T: Tree>(tree: &T, e: u32) -> u32
     requires { e < length (T.document tree.now) }
     ensures { IsBehind (T.document tree.now) e result }

@@ -1,5 +1,5 @@
 use Rattle.std.proofs.Common.{◌≡◌, ◌≤◌, ◌-◌, length, drop}
-use Rattle.css_meaning.specs.TextPlaces.{bytes_from, begins_in}
+use Rattle.css_meaning.specs.inner.TextPlaces.{bytes_from, begins_in}
 use Rattle.css_meaning.proofs.contents.begins_within.Given as goal
 
 abbrev pub invariant-loop-at : goal.invariant-loop-at

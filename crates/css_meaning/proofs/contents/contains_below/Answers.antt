@@ -1,5 +1,5 @@
 use Rattle.std.proofs.Common.{◌≡◌, ◌+◌, sym, ◌∙◌, ap, arith, false, encode_utf8_all}
-use Rattle.css_meaning.specs.TextPlaces.{text_at, bytes_from, begins_in}
+use Rattle.css_meaning.specs.inner.TextPlaces.{text_at, bytes_from, begins_in}
 use Rattle.css_meaning.proofs.TextPlaces.{row_passed, row_found, at_text, at_other, below_by_chars, nothing_left}
 use Rattle.css_meaning.proofs.contents.contains_below.Goals as goal
 use Rattle.css_meaning.proofs.contents.contains_below.Goals.{else-is_text-via-then-is_text+else-begins_within, else-is_text-via-else-is_text}

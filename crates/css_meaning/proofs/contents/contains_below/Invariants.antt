@@ -1,6 +1,6 @@
 use Rattle.std.proofs.Common.{◌≡◌, ◌<◌, ◌≤◌, ◌-◌, ◌+◌}
 use Rattle.text_base.specs.Strings.{contains}
-use Rattle.css_meaning.specs.TextPlaces.{bytes_from}
+use Rattle.css_meaning.specs.inner.TextPlaces.{bytes_from}
 use Rattle.css_meaning.proofs.contents.contains_below.Given as goal
 
 abbrev pub invariant-loop-y : goal.invariant-loop-y

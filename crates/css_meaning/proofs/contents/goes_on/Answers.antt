@@ -1,7 +1,7 @@
 use Rattle.std.proofs.Common.{sym, ◌+◌, ◌∙◌, ap, arith, inl, inr, ◌++◌}
 use Rattle.std.proofs.lemmas.Bool.{eqb-true}
 use Rattle.text_base.specs.Strings.{starts_with}
-use Rattle.css_meaning.specs.TextPlaces.{bytes_from}
+use Rattle.css_meaning.specs.inner.TextPlaces.{bytes_from}
 use Rattle.css_meaning.proofs.TextPlaces.{bytes_step, bytes_none, starts_ends}
 use Rattle.css_meaning.proofs.contents.goes_on.Goals as goal
 use Rattle.css_meaning.proofs.contents.goes_on.Goals.{then-loop-y-test+else-not-is_empty, else-loop-y-test}

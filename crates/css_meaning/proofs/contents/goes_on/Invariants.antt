@@ -1,6 +1,6 @@
 use Rattle.std.proofs.Common.{◌≡◌, ◌≤◌, ◌-◌}
 use Rattle.text_base.specs.Strings.{starts_with}
-use Rattle.css_meaning.specs.TextPlaces.{bytes_from}
+use Rattle.css_meaning.specs.inner.TextPlaces.{bytes_from}
 use Rattle.css_meaning.proofs.contents.goes_on.Given as goal
 
 abbrev pub invariant-loop-y : goal.invariant-loop-y

@@ -3,12 +3,12 @@ use Rattle.std.specs.Str.{chars}
 use Rattle.css_selectors.specs.declared.selector.Op.TheVariants as op
 use Rattle.css_meaning.specs.Attributes.{attribute_holds}
 use Rattle.css_meaning.specs.Holding.{test_holds}
-use Rattle.css_meaning.specs.Searching.{leads_back}
+use Rattle.css_meaning.specs.inner.Searching.{leads_back}
 use Rattle.css_meaning.proofs.Finding.{finds}
 use Rattle.css_meaning.proofs.HoldsAt.{at_id, at_class, at_simples}
 use Rattle.css_meaning.proofs.Relatives.{nothing_asked, on_by_rows}
 use Rattle.css_meaning.proofs.SiblingWalks.{none_more, none_any}
-use Rattle.css_meaning.proofs.Onward as onward
+use Rattle.css_meaning.proofs.SearchSteps as steps
 use Rattle.css_meaning.proofs.matching.+matching.Goals as goal
 
 pub test_holds-returns-in-Id : goal.test_holds-returns-in-Id
@@ -33,13 +33,13 @@ test_holds-returns-in-Class g t c =
 
 pub leads_back-returns-then-is_empty : goal.leads_back-returns-then-is_empty
 leads_back-returns-then-is_empty g t c =
-    sym (onward.no_part (g.T.Tree.document c.args.tree.now) c.args.dialect c.args.from c.args.parts.now c.args.e (sym c.is_empty.ensures ∙ c.if-is_empty.true))
+    sym (steps.no_part (g.T.Tree.document c.args.tree.now) c.args.dialect c.args.from c.args.parts.now c.args.e (sym c.is_empty.ensures ∙ c.if-is_empty.true))
 
 pub leads_back-tries-init : goal.leads_back-tries-init
 leads_back-tries-init g t c =
     let r = c.start-search.ensures in
-    let both = onward.begins_at (g.T.Tree.document c.args.tree.now) c.args.dialect c.args.from c.args.parts.now (g.met.T.Tree.is_document c.args.tree.now) c.start-search.result c.args.e
-    r.at r.sibling r.ancestor (onward.some_part _ (sym c.is_empty.ensures ∙ c.if-is_empty.false)) c.requires.row in
+    let both = steps.begins_at (g.T.Tree.document c.args.tree.now) c.args.dialect c.args.from c.args.parts.now (g.met.T.Tree.is_document c.args.tree.now) c.start-search.result c.args.e
+    r.at r.sibling r.ancestor (steps.some_part _ (sym c.is_empty.ensures ∙ c.if-is_empty.false)) c.requires.row in
     record { search = both.0; same = both.1 }
 
 pub leads_back-returns-in-Found : goal.leads_back-returns-in-Found

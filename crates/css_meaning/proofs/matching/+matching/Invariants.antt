@@ -1,7 +1,7 @@
 use Rattle.std.proofs.Common.{◌≡◌, true, false, take, Some, reverse}
 use Rattle.std.specs.List.{list_all, list_any}
 use Rattle.css_meaning.specs.Holding.{simple_holds, compound_holds, relative_holds}
-use Rattle.css_meaning.specs.Searching.{IsSearch, is_promising, left_of, leads_back}
+use Rattle.css_meaning.specs.inner.Searching.{IsSearch, is_promising, left_of, leads_back}
 use Rattle.css_meaning.proofs.SiblingWalks.{NoneTo}
 use Rattle.css_meaning.proofs.matching.+matching.Given as goal
 

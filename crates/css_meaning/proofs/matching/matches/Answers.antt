@@ -1,5 +1,5 @@
-use Rattle.std.proofs.Common.{sym, ◌∙◌, ap}
-use Rattle.std.specs.Prelude.{None, reverse}
+use Rattle.std.proofs.Common.{◌∙◌, ap}
+use Rattle.std.specs.Prelude.{reverse}
 use Rattle.css_meaning.specs.Matching.{matches_by}
 use Rattle.css_meaning.proofs.Backwards.{ends_anywhere}
 use Rattle.css_meaning.proofs.matching.matches.Goals as goal

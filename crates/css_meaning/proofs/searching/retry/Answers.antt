@@ -1,5 +1,6 @@
 use Rattle.std.proofs.Common.{sym}
 use Rattle.css_meaning.proofs.Onward as onward
+use Rattle.css_meaning.proofs.SearchSteps as steps
 use Rattle.css_meaning.proofs.searching.retry.Goals as goal
 
 pub returns-in-Some : goal.returns-in-Some
@@ -7,7 +8,7 @@ returns-in-Some g c = λ d from parts w stuck.
     let doc = g.T.Tree.document c.args.tree.now in
     let s = c.args.search in
     let r = c.backwards.ensures in
-    onward.made doc d from parts s c.backwards.result _ _ _ r.at r.sibling r.ancestor
+    steps.made doc d from parts s c.backwards.result _ _ _ r.at r.sibling r.ancestor
     (onward.to_sibling doc d from parts (g.met.T.Tree.is_document c.args.tree.now) s c.in-Some.row w stuck c.in-Some.ensures)
 
 pub returns-in-None : goal.returns-in-None
@@ -18,6 +19,6 @@ returns-in-None-2 g c = λ d from parts w stuck.
     let doc = g.T.Tree.document c.args.tree.now in
     let s = c.args.search in
     let r = c.upwards.ensures in
-    onward.made doc d from parts s c.upwards.result _ _ _ r.at r.sibling r.ancestor
+    steps.made doc d from parts s c.upwards.result _ _ _ r.at r.sibling r.ancestor
     (onward.to_ancestor doc d from parts (g.met.T.Tree.is_document c.args.tree.now) s c.parent.result w stuck c.in-None.ensures
-    (onward.positive s.ancestor.row c.if-search-eq0.false) (sym c.parent.ensures))
+    (steps.positive s.ancestor.row c.if-search-eq0.false) (sym c.parent.ensures))

@@ -1,6 +1,6 @@
 use Rattle.std.proofs.Common.{◌≡◌, ◌+◌, suc, ap, sym, ◌∙◌, arith}
 use Rattle.doc_model.proofs.WalkSteps.{some_of}
-use Rattle.css_meaning.specs.SiblingWalks.{is_like}
+use Rattle.css_meaning.specs.inner.SiblingWalks.{is_like}
 use Rattle.css_meaning.proofs.SiblingWalks.{count_to, count_start, count_more, count_all}
 use Rattle.css_meaning.proofs.siblings.position.Goals as goal
 
