@@ -10,12 +10,8 @@ use Rattle.std.proofs.Math.ListN.{get_or-append}
 use Rattle.std.proofs.Math.Seq.{take-append_seam, get_or-append_seam}
 use Rattle.text_base.specs.Text.{run_end, is_not_byte}
 use Rattle.char_refs.specs.References.{reference_of, with_length, body_char, first_piece, more_bytes, decoded_past, decoded}
+use Rattle.char_refs.specs.Escapes.{escape}
 use Rattle.char_refs.specs.Tables.{names, replaced}
-
--- how a character of a text, or of a value in quotes, is written so that it is read again
-abbrev pub back_escape : Bool → ℕ → List ℕ
-back_escape true c = cond (eqb c 38) (codes "&amp;") (cond (eqb c 34) (codes "&quot;") (cond (eqb c 160) (codes "&nbsp;") (cond (eqb c 13) (codes "&#13;") (c ∷ []))))
-back_escape false c = cond (eqb c 38) (codes "&amp;") (cond (eqb c 60) (codes "&lt;") (cond (eqb c 62) (codes "&gt;") (cond (eqb c 160) (codes "&nbsp;") (cond (eqb c 13) (codes "&#13;") (c ∷ [])))))
 
 past : (xs ys : List ℕ) → decoded_past (xs ++ ys) (length xs) ≡ decoded_past ys 0
 past [] ys = refl
@@ -149,7 +145,7 @@ module _ (c : ℕ) (rest : List ℕ) where
       ∙ ap (λ s. decoded (38 ∷ s)) (append_assoc body (59 ∷ []) rest)
       ∙ given body d rest passes is ∙ ap (λ n. encode_utf8 n ++ decoded rest) (sym e)
 
-  pub escape_back : (quoted : Bool) → Back (back_escape quoted c)
+  pub escape_back : (quoted : Bool) → Back (escape true quoted c)
   escape_back true =
       choose (eqb c 38) _ _ (λ e. named (codes "amp") 38 (passes3 97 109 112 refl refl refl) amp_ascii amp_char (is_eq c 38 e))
       (λ amp. choose (eqb c 34) _ _ (λ e. named (codes "quot") 34 (passes4 113 117 111 116 refl refl refl refl) quot_ascii quot_char (is_eq c 34 e))
@@ -163,9 +159,9 @@ module _ (c : ℕ) (rest : List ℕ) where
       (λ nbsp. choose (eqb c 13) _ _ (λ e. named (codes "#13") 13 (passes3 35 49 51 refl refl refl) cr_ascii cr_char (is_eq c 13 e)) (λ cr. as_is amp)))))
 
 -- a whole text
-pub escaped_back : (quoted : Bool) (text : List ℕ) → decoded (encode_utf8_all (flat_map (back_escape quoted) text)) ≡ encode_utf8_all text
+pub escaped_back : (quoted : Bool) (text : List ℕ) → decoded (encode_utf8_all (flat_map (escape true quoted) text)) ≡ encode_utf8_all text
 escaped_back quoted [] = refl
 escaped_back quoted (c ∷ text) =
-    ap decoded (encodes-append (back_escape quoted c) (flat_map (back_escape quoted) text))
-    ∙ escape_back c (encode_utf8_all (flat_map (back_escape quoted) text)) quoted
+    ap decoded (encodes-append (escape true quoted c) (flat_map (escape true quoted) text))
+    ∙ escape_back c (encode_utf8_all (flat_map (escape true quoted) text)) quoted
     ∙ ap (λ r. encode_utf8 c ++ r) (escaped_back quoted text)

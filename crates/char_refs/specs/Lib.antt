@@ -1,3 +1,4 @@
+pub mod Escapes
 pub mod Kinds
 pub mod References
 pub mod Tables

@@ -8,7 +8,8 @@ use Rattle.std.proofs.lemmas.Bool.Decides.{nat_tests}
 use Rattle.text_base.specs.Text.{is_letter}
 use Rattle.text_base.proofs.Text.{encode-chars}
 use Rattle.char_refs.specs.References.{decoded}
-use Rattle.char_refs.proofs.EscapedLemmas.{back_escape, escaped_back, kept as kept_bytes}
+use Rattle.char_refs.specs.Escapes.{escape}
+use Rattle.char_refs.proofs.EscapedLemmas.{escaped_back, kept as kept_bytes}
 use Rattle.html_lexer.specs.Names.{is_raw, is_escapable, closes, literal_names, escapable_names}
 use Rattle.html_lexer.specs.Steps.{opens, raw_end}
 use Rattle.html_lexer.specs.Tokens.{Tok as Lexed, start_tok, end_tok, text_tok, comment_tok, end_of, name_after}
@@ -27,7 +28,7 @@ use Rattle.html_reader.proofs.PageLemmas.{tokens_of-append}
 
 -- a text, or a value in quotes, as it is written
 abbrev pub ink_text : Bool → List ℕ → List ℕ
-ink_text quoted s = encode_utf8_all (flat_map (back_escape quoted) (chars s))
+ink_text quoted s = encode_utf8_all (flat_map (escape true quoted) (chars s))
 
 abbrev pub ink_pair : Attr → List ℕ × List ℕ
 ink_pair a = (a.name, ink_text true a.value)
@@ -137,7 +138,7 @@ choose : {A : Type 0} (P : A → Type 0) (b : Bool) (x y : A) → (b ≡ true �
 choose P true x y h k = h refl
 choose P false x y h k = k refl
 
-escape_less : (c : ℕ) → AllChars (back_escape false c)
+escape_less : (c : ℕ) → AllChars (escape true false c)
 escape_less c =
     choose AllChars (eqb c 38) (codes "&amp;") _ (λ e. (n 38 refl, (n 97 refl, (n 109 refl, (n 112 refl, (n 59 refl, tt))))))
     (λ amp. choose AllChars (eqb c 60) (codes "&lt;") _ (λ e. (n 38 refl, (n 108 refl, (n 116 refl, (n 59 refl, tt)))))
@@ -148,12 +149,12 @@ escape_less c =
     n : (k : ℕ) → eqb k 60 ≡ false → k ≡ 60 → ⊥
     n k h e = both (eq-eqb k 60 e) h
 
-escaped_less : (cs : List ℕ) → AllChars (flat_map (back_escape false) cs)
+escaped_less : (cs : List ℕ) → AllChars (flat_map (escape true false) cs)
 escaped_less [] = tt
-escaped_less (c ∷ cs) = all_chars_append (back_escape false c) (flat_map (back_escape false) cs) (escape_less c) (escaped_less cs)
+escaped_less (c ∷ cs) = all_chars_append (escape true false c) (flat_map (escape true false) cs) (escape_less c) (escaped_less cs)
 
 ink_less : (s : List ℕ) → NoLess (ink_text false s)
-ink_less s = chars_less (flat_map (back_escape false) (chars s)) (escaped_less (chars s))
+ink_less s = chars_less (flat_map (escape true false) (chars s)) (escaped_less (chars s))
 
 -- the content of a text that is written
 abbrev lf : List ℕ

@@ -8,7 +8,8 @@ use Rattle.std.proofs.lemmas.Bool.Decides.{nat_tests}
 use Rattle.text_base.specs.Text.{is_not_byte}
 use Rattle.text_base.proofs.Text.{encode-chars}
 use Rattle.char_refs.specs.References.{decoded}
-use Rattle.char_refs.proofs.EscapedLemmas.{back_escape, escaped_back}
+use Rattle.char_refs.specs.Escapes.{escape}
+use Rattle.char_refs.proofs.EscapedLemmas.{escaped_back}
 use Rattle.char_refs.proofs.DecodedLemmas.{decoded_utf8}
 use Rattle.html_lexer.specs.Kinds.{is_attr_byte}
 use Rattle.html_lexer.specs.TokenLaws.{IsQuotable}
@@ -109,7 +110,7 @@ choose : {A : Type 0} (P : A → Type 0) (b : Bool) (x y : A) → (b ≡ true �
 choose P true x y h k = h refl
 choose P false x y h k = k refl
 
-escape_quote : (c : ℕ) → AllChars (back_escape true c)
+escape_quote : (c : ℕ) → AllChars (escape true true c)
 escape_quote c =
     choose AllChars (eqb c 38) (codes "&amp;") _ (λ e. (n 38 refl, (n 97 refl, (n 109 refl, (n 112 refl, (n 59 refl, tt))))))
     (λ amp. choose AllChars (eqb c 34) (codes "&quot;") _ (λ e. (n 38 refl, (n 113 refl, (n 117 refl, (n 111 refl, (n 116 refl, (n 59 refl, tt)))))))
@@ -119,9 +120,9 @@ escape_quote c =
     n : (k : ℕ) → eqb k 34 ≡ false → k ≡ 34 → ⊥
     n k h e = both (eq-eqb k 34 e) h
 
-escaped_quote : (cs : List ℕ) → AllChars (flat_map (back_escape true) cs)
+escaped_quote : (cs : List ℕ) → AllChars (flat_map (escape true true) cs)
 escaped_quote [] = tt
-escaped_quote (c ∷ cs) = all_chars_append (back_escape true c) (flat_map (back_escape true) cs) (escape_quote c) (escaped_quote cs)
+escaped_quote (c ∷ cs) = all_chars_append (escape true true c) (flat_map (escape true true) cs) (escape_quote c) (escaped_quote cs)
 
 no_quote : (s : List ℕ) → NoQuote s → AllPass (is_not_byte 34) s
 no_quote [] h k d l = absurd (omega arith)
@@ -136,7 +137,7 @@ no_quote (c ∷ s) h zero d l = other c (h 0 (omega arith))
 no_quote (c ∷ s) h (suc k) d l = no_quote s (λ m q. h (suc m) (omega arith)) k d (omega arith)
 
 quotable : (a : Attr) → IsInkAttr a → IsQuotable (ink_pair a)
-quotable a h = record { some = h.0; name = h.1; value = no_quote (ink_text true a.value) (chars_quote (flat_map (back_escape true) (chars a.value)) (escaped_quote (chars a.value))) }
+quotable a h = record { some = h.0; name = h.1; value = no_quote (ink_text true a.value) (chars_quote (flat_map (escape true true) (chars a.value)) (escaped_quote (chars a.value))) }
 
 pub all_quotable : (attrs : List Attr) → AreInk attrs → All IsQuotable (map ink_pair attrs)
 all_quotable [] h k d l = absurd (omega arith)
