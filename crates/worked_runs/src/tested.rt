@@ -57,14 +57,19 @@ pub fn status_of<P: Pages, W: Sink>(
     Ok(extract(alloc, words.as_slice(), pages, sink))
 }
 
+/// The file of this name and these bytes.
+fn file_of(alloc: Global, name: &str, bytes: &[u8]) -> Result<PageFile, NoMemory> {
+    Ok(PageFile {
+        name: Txt::of(alloc, name)?,
+        bytes: Seq::from_vec(bytes.to_vec(alloc)?),
+    })
+}
+
 /// The files of these names and bytes.
 pub fn files_of(alloc: Global, pages: &[(&str, &[u8])]) -> Result<Seq<PageFile>, NoMemory> {
     let mut files = Vec::new(alloc);
     for (name, bytes) in pages {
-        files.push(PageFile {
-            name: Txt::of(alloc, name)?,
-            bytes: Seq::from_vec(bytes.to_vec(alloc)?),
-        })?;
+        files.push(file_of(alloc, name, bytes)?)?;
     }
     Ok(Seq::from_vec(files))
 }
@@ -85,17 +90,12 @@ pub struct Ran {
     pub names: String,
 }
 
-/// Runs the words on these pages, of which a read gives at most `most` bytes.
-pub fn run(
-    alloc: Global,
-    words: &[&str],
-    pages: &[(&str, &[u8])],
-    most: usize,
-) -> Result<Ran, NoMemory>
+/// Runs the words on these files, of which a read gives at most `most` bytes.
+fn run_on(alloc: Global, words: &[&str], files: Seq<PageFile>, most: usize) -> Result<Ran, NoMemory>
     requires { 0 < most }
 {
     let mut noting = Noting {
-        pages: SurePages::new(files_of(alloc, pages)?, most),
+        pages: SurePages::new(files, most),
         names: String::new(alloc),
     };
     let mut sink = sink_of(alloc, 9_999, 0)?;
@@ -105,6 +105,18 @@ pub fn run(
         bytes: sink.bytes().to_vec(alloc)?,
         names: noting.names,
     })
+}
+
+/// Runs the words on these pages, of which a read gives at most `most` bytes.
+pub fn run(
+    alloc: Global,
+    words: &[&str],
+    pages: &[(&str, &[u8])],
+    most: usize,
+) -> Result<Ran, NoMemory>
+    requires { 0 < most }
+{
+    run_on(alloc, words, files_of(alloc, pages)?, most)
 }
 
 /// Whether a run of the words on these pages, each read whole, ends so, writes exactly the lines and begins exactly these names.
@@ -136,15 +148,10 @@ pub fn is_line(
     line: &str,
 ) -> Result<bool, NoMemory> {
     let words = ["run", "html", script, "a.html"];
-    let pages = [("a.html", page)];
-    gives(
-        alloc,
-        words.as_slice(),
-        pages.as_slice(),
-        status,
-        line,
-        "a.html ",
-    )
+    let mut files = Vec::new(alloc);
+    files.push(file_of(alloc, "a.html", page)?)?;
+    let ran = run_on(alloc, words.as_slice(), Seq::from_vec(files), 9_999)?;
+    Ok(ran.status == status && ran.bytes.as_slice() == line.as_bytes())
 }
 
 /// The number of the first row that is not so, from 0.
