@@ -90,7 +90,7 @@ module _ (text : List ℕ) (i : ℕ) where
       and_front true b h = cc
       and_front false b h = refl
 
--- the run of bytes behind the sign, in the rest of the text that the sign begins
+-- the run of bytes after the sign, in the rest of the text that the sign begins
 module _ (s : List ℕ) (e : ℕ) (low : 1 ≤ e) (within : e ≤ length s) (passes : (k : ℕ) → 1 ≤ k → k < e → is_body_byte (get_or s k 0) ≡ true) where
   not_end : (b : ℕ) → is_body_byte b ≡ true → is_not_byte 59 b ≡ true
   not_end b h = grind (arith, nat_tests)

@@ -106,7 +106,7 @@ none : (t : Bool) → cond {A = List ℕ} (t && false) (10 ∷ []) [] ≡ []
 none true = refl
 none false = refl
 
--- the newline that an element's start tag has behind it
+-- the newline that an element's start tag has after it
 first_newline : (doc : Document) (n m : ℕ) (inside : Forest) (post : List Row) (t : Bool) → drop m doc ≡ rows_at n m inside ++ post → IsSpelt inside → cond (t && newline_first doc (heads m inside)) (10 ∷ []) [] ≡ lead t inside
 first_newline doc n m nothing post t h ok = none t
 first_newline doc n m (then_leaf (text s) rest) post t h ok =

@@ -51,7 +51,7 @@ NotOwn n r = is_attribute_kind r.kind ≡ true → r.parent ≡ n → ⊥
 abbrev pub IsAttr : Row → Type 0
 IsAttr r = is_attribute_kind r.kind ≡ true
 
--- the parent stands before a, or at b or behind it
+-- the parent stands before a, or at b or after it
 abbrev pub Apart : ℕ → ℕ → Row → Type 0
 Apart a b r = (r.parent < a) ⊎ (b ≤ r.parent)
 
@@ -173,7 +173,7 @@ module _ (doc : Document) (small : Small doc) where
       let is : (row doc y).parent ≡ n = eqb-true _ _ two.1 in
       omega (arith, up, is)
 
-  -- its attributes stand directly behind it
+  -- its attributes stand directly after it
   pub attributes_here : (n m : ℕ) (attrs : List Attr) (inside : Forest) (post : List Row) → m ≡ n + 1 + length (map (row_of_attribute n) attrs) → drop (n + 1) doc ≡ map (row_of_attribute n) attrs ++ (rows_at n m inside ++ post)
       → Each (NotIs n) post → m + length (rows_at n m inside) + length post ≡ length doc
       → attributes doc n ≡ filter (on_axis doc axis.Attribute n) (range_with_len (n + 1) (length (map (row_of_attribute n) attrs)))
