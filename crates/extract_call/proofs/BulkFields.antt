@@ -6,9 +6,9 @@ use Rattle.css_selectors.specs.declared.selector.Dialect.TheVariants.{Html}
 use Rattle.query_script.specs.declared.script.Field.{Field}
 use Rattle.query_script.specs.Cuts.{fields_of}
 use Rattle.query_script.specs.Fields.{IsScript, IsScriptFault}
-use Rattle.query_script.proofs.Exists.{some_reading}
 use Rattle.extract_call.specs.Bulk.{bulk_script}
 use Rattle.extract_call.specs.Laws.{BulkLaw}
+use Rattle.extract_call.proofs.Readers.{some_script}
 
 five_fields : length (fields_of bulk_script) ≡ 5
 five_fields = refl
@@ -19,7 +19,7 @@ not_refused script.Fields h = omega (arith, h.many, five_fields)
 not_refused script.Memory h = h
 
 pub bulk_reads : BulkLaw
-bulk_reads = elim (some_reading Html bulk_script) [
+bulk_reads = elim (some_script Html bulk_script) [
   | inl read ↦ read
   | inr why ↦ absurd (not_refused why.0 why.1)
 ]

@@ -8,6 +8,7 @@ pub mod PageAnswers
 pub mod PageBytes
 pub mod PageExists
 pub mod PageReadings
+pub mod PlanExists
 pub mod Plans
 pub mod Readers
 pub mod Readings

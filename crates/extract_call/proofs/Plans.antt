@@ -23,7 +23,7 @@ use Rattle.extract_call.specs.declared.answers.Line.{Line}
 use Rattle.extract_call.specs.Answers.{Answer, answer_of}
 use Rattle.extract_call.specs.Bulk.{bulk_script, bulk_text}
 use Rattle.extract_call.specs.CssLines.{IsKept, IsCssLine, IsListLine, IsRefusalLine, IsRefusedFor, most_xpath}
-use Rattle.extract_call.specs.Laws.{PlanLaw}
+use Rattle.extract_call.specs.Laws.{OnePlan, HasQueries}
 use Rattle.extract_call.specs.PageLines.{IsPageLine, MakesLines}
 use Rattle.extract_call.specs.Plans.{Plan, alone, over, IsPlan, IsScriptRefused, IsBulkLine, ForPlan}
 use Rattle.extract_call.specs.Words.{Command, css, run, bulk}
@@ -88,7 +88,7 @@ pub bulk_line : (n : ℕ) (fields : List Field) (bytes : List ℕ) (made : Resul
 bulk_line n fields bytes made reads same h =
     IfOk-weaker made _ _ (λ l is. inr (record { fields = fields; reads = reads; line = subst (λ x. IsPageLine fields (codes "bulk") x (answer_of l)) same is })) h
 
-pub one_plan : PlanLaw
+pub one_plan : OnePlan
 one_plan (css d s) (alone a) (alone b) h k = ap alone (one_line d s a b h k)
 one_plan (css d s) (alone a) (over m q) h k = absurd k
 one_plan (css d s) (over l p) other h k = absurd h
@@ -150,26 +150,10 @@ of_command d e text other says {Ends = Ends} keeps =
     let P : Dialect → List ℕ → Type 0 = λ x t. (list : SelectorList) → Accepts t list → Ends → IsKept x list in
     subst (λ (x : Dialect). P x other) one (subst (λ (t : List ℕ). P d t) two keeps)
 
--- what is said of the words' script is said of any script that they give
-pub of_run : (d e : Dialect) (text other : List ℕ) (names pages : List (List ℕ)) → Some (run d text names) ≡ Some (run e other pages)
-    → {Ends : Type 0} → ((fields : List Field) → IsScript d text fields → Ends → AllByRecursion IsOrdered fields)
-    → (fields : List Field) → IsScript e other fields → Ends → AllByRecursion IsOrdered fields
-of_run d e text other names pages says {Ends = Ends} queries =
-    let one : d ≡ e = (let y = says in cc) in
-    let two : text ≡ other = (let y = says in cc) in
-    let P : Dialect → List ℕ → Type 0 = λ x t. (fields : List Field) → IsScript x t fields → Ends → AllByRecursion IsOrdered fields in
-    subst (λ (x : Dialect). P x other) one (subst (λ (t : List ℕ). P d t) two queries)
+-- the queries of a script that was read, whichever fields it reads as
+pub ordered_for : (d : Dialect) (text : List ℕ) (fields : List Field) → IsScript d text fields → AllByRecursion IsOrdered fields → HasQueries d text
+ordered_for d text fields reads ordered other also = subst (λ (x : List Field). AllByRecursion IsOrdered x) (one_script d text fields other reads also) ordered
 
--- ---- where a line was made, there is a plan
-
-pub css_planned : (d : Dialect) (text : List ℕ) (made : Result Line NoMemory) → IsOk made → IfOk made (λ l. IsCssLine d text (answer_of l)) → (plan : Plan) × IsPlan (css d text) plan
-css_planned d text (Ok l) ok h = (alone (answer_of l), h)
-css_planned d text (Err e) ok h = let no = ok in absurd (cc)
-
-pub bulk_planned : (n : ℕ) (made : Result Line NoMemory) → IsOk made → IfOk made (λ l. IsBulkLine n (answer_of l)) → (plan : Plan) × IsPlan (bulk n) plan
-bulk_planned n (Ok l) ok h = (alone (answer_of l), h)
-bulk_planned n (Err e) ok h = let no = ok in absurd (cc)
-
-pub refusal_planned : (d : Dialect) (s : List ℕ) (names : List (List ℕ)) (made : Result Line NoMemory) → IsOk made → IfOk made (λ l. IsScriptRefused s (answer_of l)) → (plan : Plan) × IsPlan (run d s names) plan
-refusal_planned d s names (Ok l) ok h = (alone (answer_of l), h)
-refusal_planned d s names (Err e) ok h = let no = ok in absurd (cc)
+-- a script that is refused as a whole has no queries
+pub none_refused : (d : Dialect) (text : List ℕ) (why : ScriptFault) → IsScriptFault text why → HasQueries d text
+none_refused d text why cause fields reads = absurd (read_or_refused d text fields why reads cause)

@@ -1,7 +1,8 @@
 //! The bulk page, and the line of it.
-ghost use Rattle.std.specs.Prelude.{◌≡◌, ◌≤◌, ◌+◌, ◌++◌, ◌<◌, ◌^◌, IfOk, OnOk, string_bytes, decimal};
+ghost use Rattle.std.specs.Prelude.{◌≡◌, ◌≤◌, ◌+◌, ◌++◌, ◌<◌, ◌^◌, IfOk, IsOk, OnOk, string_bytes, decimal};
 ghost use Rattle.extract_call.specs.Answers.{answer_of};
 ghost use Rattle.extract_call.specs.Bulk.{item_tag, link_of, bulk_item, bulk_text, bulk_script};
+ghost use Rattle.extract_call.specs.Laws.{HasQueries};
 ghost use Rattle.extract_call.specs.Plans.{IsBulkLine};
 
 use crate::answers::{Line, script_answer};
@@ -97,7 +98,8 @@ pub fn bulk_page(alloc: Global, n: u32) -> Result<String, NoMemory>
 pub fn bulk_answer(alloc: Global, n: u32) -> Result<Line, NoMemory>
     requires some { 1 ≤ n }
     requires most { n ≤ 20000 }
-    ensures { IfOk result (λ line. IsBulkLine n (answer_of line)) }
+    ensures line { IfOk result (λ line. IsBulkLine n (answer_of line)) }
+    ensures queries { IsOk result → HasQueries Dialect.Html bulk_script }
 {
     match parse_script(alloc, Dialect::Html, BULK_SCRIPT) {
         Ok(script) => {

@@ -1,5 +1,5 @@
 //! Laws of the definitions that the contracts cite.
-ghost use Rattle.extract_call.specs.Laws.{BulkLaw, ReadingLaw, PlanLaw, WordsLaw};
+ghost use Rattle.extract_call.specs.Laws.{BulkLaw, OnePlan, ReadingLaw, SomePlan, WordsLaw};
 
 /// Each text is one selector list or is refused for one reason, and both only where the XPath of
 /// the list is too long.
@@ -7,9 +7,11 @@ pub fn one_reading()
     ensures { ReadingLaw }
 {}
 
-/// A command has one plan at most, so that its output is one list of lines.
-pub fn one_plan()
-    ensures { PlanLaw }
+/// A command has exactly one plan, so that its output is one list of lines: one at most, and one at least where each query of
+/// its script can be run, as `queries` of `extract` says.
+pub fn the_plan()
+    ensures one { OnePlan }
+    ensures some { SomePlan }
 {}
 
 /// The words have the form of a command exactly where they are the words of that command.

@@ -4,15 +4,13 @@ ghost use Rattle.io_edges.specs.Counts.{Rose, Grows};
 ghost use Rattle.io_edges.specs.Sink.{TakesPart};
 ghost use Rattle.css_selectors.specs.declared.selector.SelectorList.{SelectorList};
 ghost use Rattle.css_parser.specs.Selecting.{Accepts};
-ghost use Rattle.std.specs.List.{AllByRecursion};
-ghost use Rattle.query_script.specs.declared.script.Field.{Field};
-ghost use Rattle.query_script.specs.Fields.{IsScript};
-ghost use Rattle.query_script.specs.Ordered.{IsOrdered};
 ghost use Rattle.extract_call.specs.Answers.{bytes_of};
+ghost use Rattle.extract_call.specs.Bulk.{bulk_script};
 ghost use Rattle.extract_call.specs.CssLines.{IsKept};
 ghost use Rattle.extract_call.specs.Ending.{Ended};
+ghost use Rattle.extract_call.specs.Laws.{CanBeRun, HasQueries};
 ghost use Rattle.extract_call.specs.Output.{names_of, answers, known, HasAll, Written, Stopped, InTurn, Completes, Lacking};
-ghost use Rattle.extract_call.specs.Plans.{Plan, ForPlan, IsPlan};
+ghost use Rattle.extract_call.specs.Plans.{ForPlan};
 ghost use Rattle.extract_call.specs.Words.{Command, css, run, bulk, read, command_of};
 
 use crate::answers::{css_answer, script_answer};
@@ -32,7 +30,6 @@ fn write_css<W: Sink>(alloc: Global, dialect: Dialect, selector: &str, sink: &mu
     ensures ended { ForPlan (Some (css dialect selector.now)) (λ plan. (told : Option (List (List ℕ × List ℕ))) → (b : ℕ) → (f : ℕ) →
         Ended plan told b b f f (W.taken sink.old) (W.taken sink.new) (W.faults sink.old) (W.faults sink.new) result) }
     ensures meaning { (list : SelectorList) → Accepts selector.now list → result ≡ Status.Done → IsKept dialect list }
-    ensures planned { result ≢ Status.Memory → (plan : Plan) × IsPlan (css dialect selector.now) plan }
     ensures never_falls { W.faults sink.old ≤ W.faults sink.new }
     ensures uncounted { result ≢ Status.WriteFault → W.faults sink.new ≡ W.faults sink.old }
     ensures write_fault { result ≡ Status.WriteFault → Rose (W.faults sink.old) (W.faults sink.new) }
@@ -47,7 +44,7 @@ fn write_bulk<W: Sink>(alloc: Global, n: u32, sink: &mut W) -> Status
     requires most { n ≤ 20000 }
     ensures ended { ForPlan (Some (bulk n)) (λ plan. (told : Option (List (List ℕ × List ℕ))) → (b : ℕ) → (f : ℕ) →
         Ended plan told b b f f (W.taken sink.old) (W.taken sink.new) (W.faults sink.old) (W.faults sink.new) result) }
-    ensures planned { result ≢ Status.Memory → (plan : Plan) × IsPlan (bulk n) plan }
+    ensures queries { result ≢ Status.Memory → HasQueries Dialect.Html bulk_script }
     ensures never_falls { W.faults sink.old ≤ W.faults sink.new }
     ensures uncounted { result ≢ Status.WriteFault → W.faults sink.new ≡ W.faults sink.old }
     ensures write_fault { result ≡ Status.WriteFault → Rose (W.faults sink.old) (W.faults sink.new) }
@@ -74,8 +71,7 @@ fn write_run<P: Pages, W: Sink>(
         (P.begun pages.old) (P.begun pages.new) (P.faults pages.old) (P.faults pages.new)
         (W.taken sink.old) (W.taken sink.new) (W.faults sink.old) (W.faults sink.new) result) }
     ensures idle { ForPlan (Some (run dialect script.now (map string_bytes names.now))) (λ plan. names_of plan ≡ [] → pages.new ≡ pages.old) }
-    ensures planned { result ≢ Status.Memory → (plan : Plan) × IsPlan (run dialect script.now (map string_bytes names.now)) plan }
-    ensures queries { (fields : List Field) → IsScript dialect script.now fields → result ≢ Status.Memory → AllByRecursion IsOrdered fields }
+    ensures queries { result ≢ Status.Memory → HasQueries dialect script.now }
     ensures write_fault { result ≡ Status.WriteFault → Rose (W.faults sink.old) (W.faults sink.new) }
     ensures other { result ≢ Status.Usage }
 {
@@ -105,9 +101,7 @@ fn write_form<P: Pages, W: Sink>(
         (P.begun pages.old) (P.begun pages.new) (P.faults pages.old) (P.faults pages.new)
         (W.taken sink.old) (W.taken sink.new) (W.faults sink.old) (W.faults sink.new) result) }
     ensures idle { ForPlan (command_of form.entry) (λ plan. names_of plan ≡ [] → pages.new ≡ pages.old) }
-    ensures planned { result ≢ Status.Memory → IfSome (command_of form.entry) (λ command. (plan : Plan) × IsPlan command plan) }
-    ensures queries { (d : Dialect) → (s : List ℕ) → (names : List (List ℕ)) → (fields : List Field) → command_of form.entry ≡ Some (run d s names) → IsScript d s fields →
-        result ≢ Status.Memory → AllByRecursion IsOrdered fields }
+    ensures queries { IfSome (command_of form.entry) (λ command. result ≢ Status.Memory → CanBeRun command) }
     ensures write_fault { result ≡ Status.WriteFault → Rose (W.faults sink.old) (W.faults sink.new) }
     ensures meaning { (d : Dialect) → (s : List ℕ) → (list : SelectorList) → command_of form.entry ≡ Some (css d s) → Accepts s list →
         result ≡ Status.Done → IsKept d list }
@@ -136,9 +130,6 @@ pub fn extract<P: Pages, W: Sink>(
     ensures idle { result ≡ Status.Usage → (pages.new ≡ pages.old) × (sink.new ≡ sink.old) }
     ensures told { P.told pages.new ≡ P.told pages.old }
     ensures no_pages { ForPlan (read (map string_bytes words.now)) (λ plan. names_of plan ≡ [] → (pages.new ≡ pages.old) × (result ≢ Status.ReadFault)) }
-
-    // The command has a plan, and the law `one_plan` says that it is the only one.
-    ensures planned { result ≢ Status.Memory → IfSome (read (map string_bytes words.now)) (λ command. (plan : Plan) × IsPlan command plan) }
 
     // Whatever the status, a prefix of the output was written.
     ensures prefix { ForPlan (read (map string_bytes words.now)) (λ plan. IfSome (known plan (P.told pages.old)) (λ told.
@@ -179,9 +170,9 @@ pub fn extract<P: Pages, W: Sink>(
     ensures meaning { (d : Dialect) → (s : List ℕ) → (list : SelectorList) → read (map string_bytes words.now) ≡ Some (css d s) → Accepts s list →
         result ≡ Status.Done → IsKept d list }
 
-    // Each query of a script reads as an expression, a css step by its printed text, and stands where nodes come to it.
-    ensures queries { (d : Dialect) → (s : List ℕ) → (names : List (List ℕ)) → (fields : List Field) → read (map string_bytes words.now) ≡ Some (run d s names) → IsScript d s fields →
-        result ≢ Status.Memory → AllByRecursion IsOrdered fields }
+    // Each query of a script reads as an expression, a css step by its printed text, and stands where nodes come to it. So the
+    // command has a plan, and it is the only one: the law `the_plan`.
+    ensures queries { IfSome (read (map string_bytes words.now)) (λ command. result ≢ Status.Memory → CanBeRun command) }
 {
     write_form(alloc, read(words), pages, sink)
 }

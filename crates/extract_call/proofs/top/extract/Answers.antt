@@ -21,8 +21,5 @@ returns-clause-lacking g c = λ nf ns.
 pub returns-clause-meaning : goal.returns-clause-meaning
 returns-clause-meaning g c = λ d s list same. c.write_form.ensures.meaning d s list (c.read.ensures ∙ same)
 
-pub returns-clause-planned : goal.returns-clause-planned
-returns-clause-planned g c = rw (← c.read.ensures) c.write_form.ensures.planned
-
 pub returns-clause-queries : goal.returns-clause-queries
-returns-clause-queries g c = λ d s names fields same. c.write_form.ensures.queries d s names fields (c.read.ensures ∙ same)
+returns-clause-queries g c = rw (← c.read.ensures) c.write_form.ensures.queries

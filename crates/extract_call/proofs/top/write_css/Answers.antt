@@ -1,4 +1,4 @@
-use Rattle.extract_call.proofs.Plans.{of_css, done_keeps, css_planned}
+use Rattle.extract_call.proofs.Plans.{of_css, done_keeps}
 use Rattle.extract_call.proofs.top.write_css.Goals as goal
 
 pub returns-clause-ended : goal.returns-clause-ended
@@ -6,6 +6,3 @@ returns-clause-ended g c = of_css c.args.dialect c.args.selector.now c.css_answe
 
 pub returns-clause-meaning : goal.returns-clause-meaning
 returns-clause-meaning g c = λ list h done. done_keeps c.args.dialect c.args.selector.now c.css_answer.result c.css_answer.ensures.meaning (c.write_alone.ensures.done done) list h
-
-pub returns-clause-planned : goal.returns-clause-planned
-returns-clause-planned g c = λ found. css_planned c.args.dialect c.args.selector.now c.css_answer.result (c.write_alone.ensures.made found) c.css_answer.ensures.line

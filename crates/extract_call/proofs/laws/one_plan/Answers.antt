@@ -1,5 +1,0 @@
-use Rattle.extract_call.proofs.Plans.{one_plan}
-use Rattle.extract_call.proofs.laws.one_plan.Goals as goal
-
-pub returns : goal.returns
-returns c = one_plan
