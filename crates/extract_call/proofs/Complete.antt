@@ -1,14 +1,15 @@
 -- How a run without faults ends.
 use Rattle.std.proofs.Common.{◌≡◌, refl, ℕ, ◌<◌, List, [], Option, Some, None, length, sym, ◌∙◌, ap, arith, inl, inr, append-nil, subst}
-use Rattle.std.specs.Prelude.{IfSome, true, false, ◌⊎◌, slice_index_or}
+use Rattle.std.specs.Prelude.{IfSome, Bool, true, false, ◌||◌, ◌⊎◌, slice_index_or}
 use Rattle.io_edges.specs.Counts.{Rose, Grows}
 use Rattle.io_edges.specs.Pages.{Lacks}
 use Rattle.io_edges.specs.Sink.{grown, TakesPart}
 use Rattle.extract_call.specs.Answers.{Answer, bytes_of, line_bytes}
 use Rattle.extract_call.specs.Output.{names_of, answers, known, page_answers, HasAll, Written, Stopped, Completes, Lacking}
 use Rattle.extract_call.specs.Plans.{Plan, alone, over}
-use Rattle.extract_call.specs.Ending.{Ended}
-use Rattle.extract_call.proofs.OutputLemmas.{part_of_nothing, not_all, answers_lacking}
+use Rattle.extract_call.specs.Runs.{PagesAt, SinkAt, Counted, Run}
+use Rattle.extract_call.proofs.Ended.{Ended}
+use Rattle.extract_call.proofs.OutputLemmas.{part_of_nothing, part_whole, not_all, answers_lacking}
 use Rattle.extract_call.proofs.Turns.{turn_alone, turn_of_nothing}
 use Rattle.extract_call.specs.declared.status.Status.{Status}
 use Rattle.extract_call.specs.declared.status.Status.TheVariants.{Done, Refused, Usage, Memory, ReadFault, WriteFault}
@@ -116,3 +117,120 @@ lacks (alone a) told b b' f f' taken taken' s s' status e nf ns = λ h. absurd (
 lacks (over line names) None b b' f f' taken taken' s s' status e nf ns = tt
 lacks (over line names) (Some told) b b' f f' taken taken' s s' status e nf ns = λ h.
     by_status_lacking (over line names) told taken taken' status (λ z. h (e.done z).there) (λ z. h (e.refused z).there) (λ z. all_before line names told b b' f f' taken taken' nf (e.read_fault z)) (λ z. ns (e.write_fault z)) e.used
+
+-- ---- what is promised of a run
+
+pub run_of : {P : Type 0} (plan : Plan) (pages pages' : PagesAt P) (sink sink' : SinkAt) (status : Status)
+    → Ended plan pages.told pages.begun pages'.begun pages.faults pages'.faults sink.taken sink'.taken sink.faults sink'.faults status
+    → (names_of plan ≡ [] → pages'.pages ≡ pages.pages) → Run plan pages pages' sink sink' status
+run_of plan pages pages' sink sink' status e idle = record {
+  no_pages = λ none. (idle none, no_read_fault plan pages.told _ _ _ _ _ _ _ _ status e none);
+  prefix = e.prefix;
+  in_turn = e.in_turn;
+  done = e.done;
+  refused = e.refused;
+  begun = e.begun_all;
+  read_fault = e.read_fault;
+  complete = completes plan pages.told _ _ _ _ _ _ _ _ status e;
+  lacking = lacks plan pages.told _ _ _ _ _ _ _ _ status e;
+}
+
+-- a run that left the pages alone, whatever pages they are
+pub run_at : {P : Type 0} (plan : Plan) (pages : PagesAt P) (sink sink' : SinkAt) (status : Status)
+    → ((none : PagesAt (Unit {0})) → Run plan none none sink sink' status) → Run plan pages pages sink sink' status
+run_at plan pages sink sink' status r =
+    let e : Run plan (record { pages = tt; told = pages.told; begun = pages.begun; faults = pages.faults }) (record { pages = tt; told = pages.told; begun = pages.begun; faults = pages.faults }) sink sink' status
+    = r (record { pages = tt; told = pages.told; begun = pages.begun; faults = pages.faults }) in
+    record {
+      no_pages = λ none. (refl, (e.no_pages none).1);
+      prefix = e.prefix;
+      in_turn = e.in_turn;
+      done = e.done;
+      refused = e.refused;
+      begun = e.begun;
+      read_fault = e.read_fault;
+      complete = e.complete;
+      lacking = e.lacking;
+    }
+
+-- a run that found no memory before it began a page
+pub nothing_run : {P : Type 0} (plan : Plan) (pages : PagesAt P) (sink : SinkAt) → Run plan pages pages sink sink Memory
+nothing_run plan pages sink = run_of plan pages pages sink sink Memory (nothing_written plan pages.told pages.begun pages.faults sink.taken sink.faults) (λ none. refl)
+
+-- a run without pages whose line was not written whole
+pub part_run : {P : Type 0} (made a : Answer) (pages : PagesAt P) (sink sink' : SinkAt) (status : Status) → made ≡ a → TakesPart sink.taken (line_bytes made) sink'.taken →
+    (status ≡ WriteFault → Rose sink.faults sink'.faults) → (status ≡ Done → ⊥) → (status ≡ Refused → ⊥) → (status ≡ Usage → ⊥) → (status ≡ ReadFault → ⊥) →
+    Run (alone a) pages pages sink sink' status
+part_run made a pages sink sink' status same part wf nd nr nu nf =
+    run_of (alone a) pages pages sink sink' status
+    (alone_stopped made a pages.told pages.begun pages.faults sink.taken sink'.taken sink.faults sink'.faults status part same wf nd nr nu nf) (λ none. refl)
+
+-- and one whose line was written
+pub whole_run : {P : Type 0} (made a : Answer) (pages : PagesAt P) (sink sink' : SinkAt) (status : Status) → made ≡ a → sink'.taken ≡ grown sink.taken (line_bytes made) →
+    (status ≡ Done → made.refused ≡ false) → (status ≡ Refused → made.refused ≡ true) → (status ≡ Usage → ⊥) → (status ≡ ReadFault → ⊥) → (status ≡ WriteFault → ⊥) →
+    Run (alone a) pages pages sink sink' status
+whole_run made a pages sink sink' status same all d r nu nf nw = run_of (alone a) pages pages sink sink' status written (λ none. refl)
+  where
+    taken : sink'.taken ≡ grown sink.taken (line_bytes a)
+    taken = subst (λ (x : Answer). sink'.taken ≡ grown sink.taken (line_bytes x)) same all
+
+    or_false : (b : Bool) → (b || false) ≡ b
+    or_false true = refl
+    or_false false = refl
+
+    by_truth : (b : Bool) → made.refused ≡ b → Written (alone a) [] sink.taken sink'.taken b
+    by_truth b e = record {
+      there = tt;
+      truth = or_false a.refused ∙ (ap (λ (x : Answer). x.refused) (sym same) ∙ e);
+      all = rw (append-nil (line_bytes a)) taken;
+    }
+
+    written : Ended (alone a) pages.told pages.begun pages.begun pages.faults pages.faults sink.taken sink'.taken sink.faults sink'.faults status
+    written = record {
+      prefix = rw (append-nil (line_bytes a)) (part_whole sink.taken sink'.taken (line_bytes a) taken);
+      done = λ z. by_truth false (d z);
+      refused = λ z. by_truth true (r z);
+      begun_all = λ z. omega arith;
+      read_fault = λ z. absurd (nf z);
+      in_turn = turn_alone a pages.told sink.taken sink'.taken pages.begun (part_whole sink.taken sink'.taken (line_bytes a) taken);
+      write_fault = λ z. absurd (nw z);
+      used = nu;
+    }
+
+-- the same of the counts
+pub counted_at : {P : Type 0} (pages : PagesAt P) (sink sink' : SinkAt) (status : Status)
+    → ((none : PagesAt (Unit {0})) → Counted none none sink sink' status) → Counted pages pages sink sink' status
+counted_at pages sink sink' status r =
+    let e : Counted (record { pages = tt; told = pages.told; begun = pages.begun; faults = pages.faults }) (record { pages = tt; told = pages.told; begun = pages.begun; faults = pages.faults }) sink sink' status
+    = r (record { pages = tt; told = pages.told; begun = pages.begun; faults = pages.faults }) in
+    record {
+      told = refl;
+      write_fault = e.write_fault;
+      page_faults = e.page_faults;
+      sink_faults = e.sink_faults;
+      pages_uncounted = λ other. refl;
+      sink_uncounted = e.sink_uncounted;
+    }
+
+-- nothing was touched
+pub untouched : {P : Type 0} (pages : PagesAt P) (sink : SinkAt) (status : Status) → (status ≡ WriteFault → ⊥) → Counted pages pages sink sink status
+untouched pages sink status other = record {
+  told = refl;
+  write_fault = λ z. absurd (other z);
+  page_faults = omega arith;
+  sink_faults = omega arith;
+  pages_uncounted = λ z. refl;
+  sink_uncounted = λ z. refl;
+}
+
+-- no fault was counted
+pub unfaulted : {P : Type 0} (pages pages' : PagesAt P) (sink sink' : SinkAt) (status : Status) → pages'.told ≡ pages.told → pages'.faults ≡ pages.faults → sink'.faults ≡ sink.faults
+    → (status ≡ WriteFault → ⊥) → Counted pages pages' sink sink' status
+unfaulted pages pages' sink sink' status told same_pages same_sink other = record {
+  told = told;
+  write_fault = λ z. absurd (other z);
+  page_faults = omega (arith, same_pages);
+  sink_faults = omega (arith, same_sink);
+  pages_uncounted = λ z. same_pages;
+  sink_uncounted = λ z. same_sink;
+}

@@ -2,6 +2,7 @@ pub mod BulkFields
 pub mod BulkLemmas
 pub mod Complete
 pub mod Counts
+pub mod Ended
 pub mod Forms
 pub mod OutputLemmas
 pub mod PageAnswers

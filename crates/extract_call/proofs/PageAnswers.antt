@@ -9,15 +9,15 @@ use Rattle.query_script.specs.declared.script.Field.{Field}
 use Rattle.json_lines.specs.Pages.{refused_text}
 use Rattle.extract_call.specs.Answers.{Answer, line_bytes}
 use Rattle.extract_call.specs.OnePage.{TakesLine, TakesLinePart}
-use Rattle.extract_call.specs.PageLines.{most_page, too_long, IsPageLine, MakesLines}
+use Rattle.extract_call.specs.PageLines.{most_page, too_long, IsPageLine, IsValuesLine, MakesLines}
 use Rattle.extract_call.proofs.PageReadings.{one_page_line}
 
 -- where the pages are told, this one is there, and this is its line
 abbrev pub IsToldLine : List Field → Option (List (List ℕ × List ℕ)) → List ℕ → Answer → Type 0
-IsToldLine fields told name a = IfSome told (λ pages. (bytes : List ℕ) × ((page pages name ≡ Some bytes) × IsPageLine fields name bytes a))
+IsToldLine fields told name a = IfSome told (λ pages. (bytes : List ℕ) × ((page pages name ≡ Some bytes) × IsPageLine (IsValuesLine fields) name bytes a))
 
 -- the line of a page that was read whole
-pub line_of_whole : (fields : List Field) (name bytes : List ℕ) (told : Option (List (List ℕ × List ℕ))) (a : Answer) → Has told name bytes → IsPageLine fields name bytes a → IsToldLine fields told name a
+pub line_of_whole : (fields : List Field) (name bytes : List ℕ) (told : Option (List (List ℕ × List ℕ))) (a : Answer) → Has told name bytes → IsPageLine (IsValuesLine fields) name bytes a → IsToldLine fields told name a
 line_of_whole fields name bytes None a h l = tt
 line_of_whole fields name bytes (Some pages) a h l = (bytes, (h, l))
 
@@ -28,7 +28,7 @@ line_of_long fields name None a h e = tt
 line_of_long fields name (Some pages) a h e = (h.0, (h.1, inl (record { fault = too_long; cause = inl (record { long = h.2; is = refl }); line = e })))
 
 -- the line was taken
-pub line_taken : (fields : List Field) (line : List ℕ → List ℕ → Answer) → MakesLines fields line → (told : Option (List (List ℕ × List ℕ))) (name : List ℕ) (old new : Option (List ℕ)) (a : Answer) (refused : Bool)
+pub line_taken : (fields : List Field) (line : List ℕ → List ℕ → Answer) → MakesLines (IsValuesLine fields) line → (told : Option (List (List ℕ × List ℕ))) (name : List ℕ) (old new : Option (List ℕ)) (a : Answer) (refused : Bool)
     → IsToldLine fields told name a → a.refused ≡ refused → new ≡ grown old (line_bytes a) → TakesLine line told name old new refused
 line_taken fields line makes None name old new a refused h r t = tt
 line_taken fields line makes (Some pages) name old new a refused h r t =
@@ -36,7 +36,7 @@ line_taken fields line makes (Some pages) name old new a refused h r t =
     (h.0, (h.1.0, (ap (λ (x : Answer). x.refused) (sym same) ∙ r, t ∙ ap (λ (x : Answer). grown old (line_bytes x)) same)))
 
 -- a part of the line was taken
-pub line_part : (fields : List Field) (line : List ℕ → List ℕ → Answer) → MakesLines fields line → (told : Option (List (List ℕ × List ℕ))) (name : List ℕ) (old new : Option (List ℕ)) (a : Answer)
+pub line_part : (fields : List Field) (line : List ℕ → List ℕ → Answer) → MakesLines (IsValuesLine fields) line → (told : Option (List (List ℕ × List ℕ))) (name : List ℕ) (old new : Option (List ℕ)) (a : Answer)
     → IsToldLine fields told name a → TakesPart old (line_bytes a) new → TakesLinePart line told name old new
 line_part fields line makes None name old new a h t = tt
 line_part fields line makes (Some pages) name old new a h t =

@@ -14,8 +14,8 @@ use Rattle.query_chain.proofs.Values.{one_value}
 use Rattle.json_lines.specs.Pages.{page_text, refused_text}
 use Rattle.extract_call.specs.declared.answers.Line.{Line}
 use Rattle.extract_call.specs.Answers.{Answer, answer_of}
-use Rattle.extract_call.specs.OnePage.{IsDocumentLine, IsTextLine, IsFaultLine, IsBuiltLine}
-use Rattle.extract_call.specs.PageLines.{most_page, too_long, IsTooLong, IsNoText, IsNoTree, IsPageRefused, IsRefusedPageLine, AreValues, is_refused, IsValuesLine, IsPageLine}
+use Rattle.extract_call.specs.OnePage.{IsTextLine, IsFaultLine, IsBuiltLine}
+use Rattle.extract_call.specs.PageLines.{most_page, too_long, IsTooLong, IsNoText, IsNoTree, IsPageRefused, IsRefusedPageLine, AreValues, is_refused, IsShownLine, IsValuesLine, IsPageLine}
 use Rattle.extract_call.proofs.Readers.{one_document, one_fault, never_both}
 
 same_fault : (f g : PageFault) → f.reason ≡ g.reason → f.at ≡ g.at → f ≡ g
@@ -40,10 +40,10 @@ one_cause bytes f g (inr (inr h)) (inr (inl k)) = let x = h.decodes in let y = k
 one_cause bytes f g (inr (inr h)) (inr (inr k)) = tree_faults bytes f g h k
 
 -- a page that is refused has no values
-refused_or_read : (fields : List Field) (name bytes : List ℕ) (f : PageFault) (a : Answer) → IsPageRefused bytes f → IsValuesLine fields name bytes a → ⊥
-refused_or_read fields name bytes f a (inl h) k = let l : most_page < length bytes = h.long in let s : length bytes ≤ most_page = k.short in omega arith
-refused_or_read fields name bytes f a (inr (inl h)) k = let x = h.is in let y = k.decodes in cc
-refused_or_read fields name bytes f a (inr (inr h)) k =
+refused_or_read : (shows : List ℕ → Document → Answer → Type 0) (name bytes : List ℕ) (f : PageFault) (a : Answer) → IsPageRefused bytes f → IsShownLine shows name bytes a → ⊥
+refused_or_read shows name bytes f a (inl h) k = let l : most_page < length bytes = h.long in let s : length bytes ≤ most_page = k.short in omega arith
+refused_or_read shows name bytes f a (inr (inl h)) k = let x = h.is in let y = k.decodes in cc
+refused_or_read shows name bytes f a (inr (inr h)) k =
     let t : k.text ≡ h.text = (let x = h.decodes in let y = k.decodes in cc) in
     never_both h.text k.doc f.reason f.at (subst (λ x. BuildsPage x k.doc) t k.builds) h.is
 
@@ -55,34 +55,44 @@ one_values doc (f ∷ fields) [] other h k = absurd h
 one_values doc (f ∷ fields) (v ∷ values) [] h k = absurd k
 one_values doc (f ∷ fields) (v ∷ values) (w ∷ other) h k = ap₂ ◌∷◌ (one_value doc f v w h.0 k.0) (one_values doc fields values other h.1 k.1)
 
-values_lines : (fields : List Field) (name bytes : List ℕ) (a b : Answer) → IsValuesLine fields name bytes a → IsValuesLine fields name bytes b → a ≡ b
-values_lines fields name bytes a b h k =
+-- a document shows one line
+abbrev pub ShowsOne : (List ℕ → Document → Answer → Type 0) → Type 0
+ShowsOne shows = (name : List ℕ) (doc : Document) (a b : Answer) → shows name doc a → shows name doc b → a ≡ b
+
+pub one_values_line : (fields : List Field) → ShowsOne (IsValuesLine fields)
+one_values_line fields name doc a b h k =
+    h.line ∙ ap (λ vs. record { text = page_text name fields vs; refused = list_any is_refused vs }) (one_values doc fields h.values k.values h.are k.are) ∙ sym k.line
+
+shown_lines : (shows : List ℕ → Document → Answer → Type 0) → ShowsOne shows → (name bytes : List ℕ) (a b : Answer) → IsShownLine shows name bytes a → IsShownLine shows name bytes b → a ≡ b
+shown_lines shows one name bytes a b h k =
     let t : h.text ≡ k.text = (let x = h.decodes in let y = k.decodes in cc) in
     let d : h.doc ≡ k.doc = one_document k.text h.doc k.doc (subst (λ x. BuildsPage x h.doc) t h.builds) k.builds in
-    let v : h.values ≡ k.values = one_values k.doc fields h.values k.values (subst (λ x. AreValues x fields h.values) d h.are) k.are in
-    h.line ∙ ap (λ vs. record { text = page_text name fields vs; refused = list_any is_refused vs }) v ∙ sym k.line
+    one name k.doc a b (subst (λ x. shows name x a) d h.shown) k.shown
 
-pub one_page_line : (fields : List Field) (name bytes : List ℕ) (a b : Answer) → IsPageLine fields name bytes a → IsPageLine fields name bytes b → a ≡ b
-one_page_line fields name bytes a b (inl h) (inl k) =
+line_of_page : (shows : List ℕ → Document → Answer → Type 0) → ShowsOne shows → (name bytes : List ℕ) (a b : Answer) → IsPageLine shows name bytes a → IsPageLine shows name bytes b → a ≡ b
+line_of_page shows one name bytes a b (inl h) (inl k) =
     h.line ∙ ap (λ f. record { text = refused_text name f; refused = true }) (one_cause bytes h.fault k.fault h.cause k.cause) ∙ sym k.line
-one_page_line fields name bytes a b (inl h) (inr k) = absurd (refused_or_read fields name bytes h.fault b h.cause k)
-one_page_line fields name bytes a b (inr h) (inl k) = absurd (refused_or_read fields name bytes k.fault a k.cause h)
-one_page_line fields name bytes a b (inr h) (inr k) = values_lines fields name bytes a b h k
+line_of_page shows one name bytes a b (inl h) (inr k) = absurd (refused_or_read shows name bytes h.fault b h.cause k)
+line_of_page shows one name bytes a b (inr h) (inl k) = absurd (refused_or_read shows name bytes k.fault a k.cause h)
+line_of_page shows one name bytes a b (inr h) (inr k) = shown_lines shows one name bytes a b h k
+
+pub one_page_line : (fields : List Field) (name bytes : List ℕ) (a b : Answer) → IsPageLine (IsValuesLine fields) name bytes a → IsPageLine (IsValuesLine fields) name bytes b → a ≡ b
+one_page_line fields = line_of_page (IsValuesLine fields) (one_values_line fields)
 
 -- the line of the text that the bytes decode to
-pub line_of_text : (fields : List Field) (name bytes text : List ℕ) (a : Answer) → length bytes ≤ most_page → decoded bytes ≡ Ok text → IsTextLine fields name text a → IsPageLine fields name bytes a
+pub line_of_text : (fields : List Field) (name bytes text : List ℕ) (a : Answer) → length bytes ≤ most_page → decoded bytes ≡ Ok text → IsTextLine (IsValuesLine fields) name text a → IsPageLine (IsValuesLine fields) name bytes a
 line_of_text fields name bytes text a short decodes (inl h) =
     inl (record { fault = h.fault; cause = inr (inr (record { short = short; text = text; decodes = decodes; is = h.is })); line = h.line })
 line_of_text fields name bytes text a short decodes (inr h) =
-    inr (record { short = short; text = text; decodes = decodes; doc = h.doc; builds = h.builds; values = h.is.values; are = h.is.are; line = h.is.line })
+    inr (record { short = short; text = text; decodes = decodes; doc = h.doc; builds = h.builds; shown = h.shown })
 
 -- the line of a page with too many bytes
 pub long_line : (fields : List Field) (name bytes : List ℕ) (made : Result Line NoMemory) → most_page < length bytes
-    → IfOk made (λ l. answer_of l ≡ record { text = refused_text name too_long; refused = true }) → IfOk made (λ l. IsPageLine fields name bytes (answer_of l))
+    → IfOk made (λ l. answer_of l ≡ record { text = refused_text name too_long; refused = true }) → IfOk made (λ l. IsPageLine (IsValuesLine fields) name bytes (answer_of l))
 long_line fields name bytes made long h = IfOk-weaker made _ _ (λ l e. inl (record { fault = too_long; cause = inl (record { long = long; is = refl }); line = e })) h
 
 -- the line of a document that was read of the text
 pub built_line : (fields : List Field) (name text : List ℕ) (made : Result Line NoMemory) (kept doc : Document) → kept ≡ doc → BuildsPage text doc
-    → IfOk made (λ l. IsDocumentLine fields name kept (answer_of l)) → IfOk made (λ l. IsTextLine fields name text (answer_of l))
+    → IfOk made (λ l. IsValuesLine fields name kept (answer_of l)) → IfOk made (λ l. IsTextLine (IsValuesLine fields) name text (answer_of l))
 built_line fields name text made kept doc same builds h =
-    IfOk-weaker made _ _ (λ l is. inr (record { doc = kept; builds = subst (λ x. BuildsPage text x) (sym same) builds; is = is })) h
+    IfOk-weaker made _ _ (λ l is. inr (record { doc = kept; builds = subst (λ x. BuildsPage text x) (sym same) builds; shown = is })) h

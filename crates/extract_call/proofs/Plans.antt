@@ -24,7 +24,7 @@ use Rattle.extract_call.specs.Answers.{Answer, answer_of}
 use Rattle.extract_call.specs.Bulk.{bulk_script, bulk_text}
 use Rattle.extract_call.specs.CssLines.{IsKept, IsCssLine, IsListLine, IsRefusalLine, IsRefusedFor, most_xpath}
 use Rattle.extract_call.specs.Laws.{OnePlan, HasQueries}
-use Rattle.extract_call.specs.PageLines.{IsPageLine, MakesLines}
+use Rattle.extract_call.specs.PageLines.{IsPageLine, IsValuesLine, MakesLines}
 use Rattle.extract_call.specs.Plans.{Plan, alone, over, IsPlan, IsScriptRefused, IsBulkLine, ForPlan}
 use Rattle.extract_call.specs.Words.{Command, css, run, bulk}
 use Rattle.extract_call.proofs.PageReadings.{one_page_line}
@@ -71,8 +71,8 @@ same_refusal s a b h k =
     h.line ∙ ap (λ why. record { text = reason_text (codes "script." ++ script_word why); refused = true }) (one_script_fault s h.why k.why h.cause k.cause) ∙ sym k.line
 
 -- what is made by the fields of a script is made by whichever fields it reads as
-makes_for : (d : Dialect) (s : List ℕ) (fields other : List Field) → IsScript d s fields → IsScript d s other → (line : List ℕ → List ℕ → Answer) → MakesLines other line → MakesLines fields line
-makes_for d s fields other h k line makes = subst (λ x. MakesLines x line) (one_script d s other fields k h) makes
+makes_for : (d : Dialect) (s : List ℕ) (fields other : List Field) → IsScript d s fields → IsScript d s other → (line : List ℕ → List ℕ → Answer) → MakesLines (IsValuesLine other) line → MakesLines (IsValuesLine fields) line
+makes_for d s fields other h k line makes = subst (λ x. MakesLines (IsValuesLine x) line) (one_script d s other fields k h) makes
 
 one_bulk_line : (n : ℕ) (a b : Answer) → IsBulkLine n a → IsBulkLine n b → a ≡ b
 one_bulk_line n a b (inl h) (inl k) = same_refusal bulk_script a b h k
@@ -80,13 +80,13 @@ one_bulk_line n a b (inl h) (inr k) = absurd (read_or_refused Html bulk_script k
 one_bulk_line n a b (inr h) (inl k) = absurd (read_or_refused Html bulk_script h.fields k.why h.reads k.cause)
 one_bulk_line n a b (inr h) (inr k) =
     let same = one_script Html bulk_script k.fields h.fields k.reads h.reads in
-    one_page_line h.fields (codes "bulk") (bulk_text n) a b h.line (subst (λ x. IsPageLine x (codes "bulk") (bulk_text n) b) same k.line)
+    one_page_line h.fields (codes "bulk") (bulk_text n) a b h.line (subst (λ x. IsPageLine (IsValuesLine x) (codes "bulk") (bulk_text n) b) same k.line)
 
 -- the line that was made of the bulk page
 pub bulk_line : (n : ℕ) (fields : List Field) (bytes : List ℕ) (made : Result Line NoMemory) → IsScript Html bulk_script fields → bytes ≡ bulk_text n
-    → IfOk made (λ l. IsPageLine fields (codes "bulk") bytes (answer_of l)) → IfOk made (λ l. IsBulkLine n (answer_of l))
+    → IfOk made (λ l. IsPageLine (IsValuesLine fields) (codes "bulk") bytes (answer_of l)) → IfOk made (λ l. IsBulkLine n (answer_of l))
 bulk_line n fields bytes made reads same h =
-    IfOk-weaker made _ _ (λ l is. inr (record { fields = fields; reads = reads; line = subst (λ x. IsPageLine fields (codes "bulk") x (answer_of l)) same is })) h
+    IfOk-weaker made _ _ (λ l is. inr (record { fields = fields; reads = reads; line = subst (λ x. IsPageLine (IsValuesLine fields) (codes "bulk") x (answer_of l)) same is })) h
 
 pub one_plan : OnePlan
 one_plan (css d s) (alone a) (alone b) h k = ap alone (one_line d s a b h k)
@@ -96,7 +96,7 @@ one_plan (run d s names) (alone a) (alone b) h k = ap alone (same_refusal s a b 
 one_plan (run d s names) (alone a) (over m q) h k = absurd (read_or_refused d s k.1.fields h.why k.1.reads h.cause)
 one_plan (run d s names) (over l p) (alone b) h k = absurd (read_or_refused d s h.1.fields k.why h.1.reads k.cause)
 one_plan (run d s names) (over l p) (over m q) h k =
-    let makes : MakesLines h.1.fields m = makes_for d s h.1.fields k.1.fields h.1.reads k.1.reads m k.1.makes in
+    let makes : MakesLines (IsValuesLine h.1.fields) m = makes_for d s h.1.fields k.1.fields h.1.reads k.1.reads m k.1.makes in
     let same : l ≡ m = fun_ext (λ name. fun_ext (λ bytes. one_page_line h.1.fields name bytes (l name bytes) (m name bytes) (h.1.makes name bytes) (makes name bytes))) in
     ap₂ over same (h.0 ∙ sym k.0)
 one_plan (bulk n) (alone a) (alone b) h k = ap alone (one_bulk_line n a b h k)
@@ -117,7 +117,7 @@ of_bulk n made P line each (over page names) h = absurd h
 
 -- a script that reads as fields
 pub of_script : (d : Dialect) (s : List ℕ) (names : List (List ℕ)) (fields : List Field) (P : Plan → Type 0) → IsScript d s fields
-    → ((line : List ℕ → List ℕ → Answer) → MakesLines fields line → P (over line names)) → (plan : Plan) → IsPlan (run d s names) plan → P plan
+    → ((line : List ℕ → List ℕ → Answer) → MakesLines (IsValuesLine fields) line → P (over line names)) → (plan : Plan) → IsPlan (run d s names) plan → P plan
 of_script d s names fields P reads each (alone a) h = absurd (read_or_refused d s fields h.why reads h.cause)
 of_script d s names fields P reads each (over line pages) h =
     subst (λ x. P (over line x)) (sym h.0) (each line (makes_for d s fields h.1.fields reads h.1.reads line h.1.makes))

@@ -10,7 +10,7 @@ use Rattle.io_edges.proofs.SinkLemmas.{grown-grown, grown-nil}
 use Rattle.extract_call.specs.Answers.{Answer, bytes_of, refuses, line_bytes}
 use Rattle.extract_call.specs.Output.{page_answers, HasAll, Written}
 use Rattle.extract_call.specs.Plans.{over}
-use Rattle.extract_call.specs.Ending.{Ended}
+use Rattle.extract_call.proofs.Ended.{Ended}
 use Rattle.extract_call.specs.OnePage.{TakesLine, TakesLinePart}
 use Rattle.extract_call.specs.declared.status.Status.{Status}
 use Rattle.extract_call.specs.declared.status.Status.TheVariants.{Done, Refused, Usage, ReadFault, WriteFault}

@@ -1,12 +1,12 @@
 pub mod Answers
 pub mod Bulk
 pub mod CssLines
-pub mod Ending
 pub mod Laws
 pub mod Numbers
 pub mod OnePage
 pub mod Output
 pub mod PageLines
 pub mod Plans
+pub mod Runs
 pub mod Tasks
 pub mod Words

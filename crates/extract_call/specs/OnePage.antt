@@ -1,22 +1,12 @@
 -- For the contracts of private functions alone: one page of a run.
 use Rattle.std.specs.Prelude.{◌≡◌, ◌⊎◌, ℕ, Bool, true, List, Option, Some, IfSome}
-use Rattle.std.specs.List.{list_any}
 use Rattle.text_base.specs.declared.reasons.PageFault.{PageFault}
 use Rattle.doc_model.specs.Document.{Document}
 use Rattle.html_reader.specs.Pages.{BuildsPage, IsPageFault}
-use Rattle.query_script.specs.declared.script.Field.{Field}
-use Rattle.query_script.specs.declared.script.FieldValue.{FieldValue}
-use Rattle.json_lines.specs.Pages.{page_text, refused_text}
+use Rattle.json_lines.specs.Pages.{refused_text}
 use Rattle.io_edges.specs.Pages.{page}
 use Rattle.io_edges.specs.Sink.{grown, TakesPart}
 use Rattle.extract_call.specs.Answers.{Answer, line_bytes}
-use Rattle.extract_call.specs.PageLines.{AreValues, is_refused}
-
--- the line of a document
-pub record IsDocumentLine (fields : List Field) (name : List ℕ) (doc : Document) (a : Answer) : Type 0 where
-  pub values : List FieldValue
-  pub are : AreValues doc fields values
-  pub line : a ≡ record { text = page_text name fields values; refused = list_any is_refused values }
 
 -- the text has a fault, and the line has it
 pub record IsFaultLine (name text : List ℕ) (a : Answer) : Type 0 where
@@ -24,15 +14,15 @@ pub record IsFaultLine (name text : List ℕ) (a : Answer) : Type 0 where
   pub is : IsPageFault text fault.reason fault.at
   pub line : a ≡ record { text = refused_text name fault; refused = true }
 
--- the text builds a document, and the line is that of the document
-pub record IsBuiltLine (fields : List Field) (name text : List ℕ) (a : Answer) : Type 0 where
+-- the text builds a document, and this is its line
+pub record IsBuiltLine (shows : List ℕ → Document → Answer → Type 0) (name text : List ℕ) (a : Answer) : Type 0 where
   pub doc : Document
   pub builds : BuildsPage text doc
-  pub is : IsDocumentLine fields name doc a
+  pub shown : shows name doc a
 
 -- the line of a text within the limit
-abbrev pub IsTextLine : List Field → List ℕ → List ℕ → Answer → Type 0
-IsTextLine fields name text a = IsFaultLine name text a ⊎ IsBuiltLine fields name text a
+abbrev pub IsTextLine : (List ℕ → Document → Answer → Type 0) → List ℕ → List ℕ → Answer → Type 0
+IsTextLine shows name text a = IsFaultLine name text a ⊎ IsBuiltLine shows name text a
 
 -- where the pages are told, this one is there and its line was taken
 abbrev pub TakesLine : (List ℕ → List ℕ → Answer) → Option (List (List ℕ × List ℕ)) → List ℕ → Option (List ℕ) → Option (List ℕ) → Bool → Type 0

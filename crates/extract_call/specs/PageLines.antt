@@ -1,4 +1,4 @@
--- The line of a page, which is made of the fields of a script, the page's name and its bytes, and of nothing else.
+-- The line of a page, which is made of what is asked of its document, of its name and its bytes, and of nothing else.
 use Rattle.std.specs.Prelude.{◌≡◌, ◌≤◌, ◌<◌, ℕ, ◌⊎◌, Bool, true, false, List, [], ◌∷◌, length, Ok, Err}
 use Rattle.std.specs.List.{list_any}
 use Rattle.text_base.specs.declared.reasons.PageFault.{PageFault}
@@ -44,6 +44,28 @@ pub record IsRefusedPageLine (name bytes : List ℕ) (a : Answer) : Type 0 where
   pub cause : IsPageRefused bytes fault
   pub line : a ≡ record { text = refused_text name fault; refused = true }
 
+-- ---- the line of a page, where `shows` says what a document shows: by the page's name, its line, with the truth whether it
+-- ---- holds a refusal
+
+-- the text of the bytes builds a document, and this is its line
+pub record IsShownLine (shows : List ℕ → Document → Answer → Type 0) (name bytes : List ℕ) (a : Answer) : Type 0 where
+  pub short : length bytes ≤ most_page
+  pub text : List ℕ
+  pub decodes : decoded bytes ≡ Ok text
+  pub doc : Document
+  pub builds : BuildsPage text doc
+  pub shown : shows name doc a
+
+-- the line of a page, by what its document shows
+abbrev pub IsPageLine : (List ℕ → Document → Answer → Type 0) → List ℕ → List ℕ → Answer → Type 0
+IsPageLine shows name bytes a = IsRefusedPageLine name bytes a ⊎ IsShownLine shows name bytes a
+
+-- what makes the line of each page
+abbrev pub MakesLines : (List ℕ → Document → Answer → Type 0) → (List ℕ → List ℕ → Answer) → Type 0
+MakesLines shows line = (name bytes : List ℕ) → IsPageLine shows name bytes (line name bytes)
+
+-- ---- what a document shows by the fields of a script
+
 -- each field has the value at its place
 abbrev pub AreValues : Document → List Field → List FieldValue → Type 0
 AreValues doc [] [] = Unit {0}
@@ -57,21 +79,8 @@ is_refused (All texts) = false
 is_refused (One text) = false
 is_refused (Refused why) = true
 
--- the text of the bytes builds a document: the line has the fields with their values there, and it holds a refusal where one of the fields is refused
-pub record IsValuesLine (fields : List Field) (name bytes : List ℕ) (a : Answer) : Type 0 where
-  pub short : length bytes ≤ most_page
-  pub text : List ℕ
-  pub decodes : decoded bytes ≡ Ok text
-  pub doc : Document
-  pub builds : BuildsPage text doc
+-- the line has the fields with their values on the document, and it holds a refusal where one of the fields is refused
+pub record IsValuesLine (fields : List Field) (name : List ℕ) (doc : Document) (a : Answer) : Type 0 where
   pub values : List FieldValue
   pub are : AreValues doc fields values
   pub line : a ≡ record { text = page_text name fields values; refused = list_any is_refused values }
-
--- the line of a page
-abbrev pub IsPageLine : List Field → List ℕ → List ℕ → Answer → Type 0
-IsPageLine fields name bytes a = IsRefusedPageLine name bytes a ⊎ IsValuesLine fields name bytes a
-
--- what makes the line of each page by these fields
-abbrev pub MakesLines : List Field → (List ℕ → List ℕ → Answer) → Type 0
-MakesLines fields line = (name bytes : List ℕ) → IsPageLine fields name bytes (line name bytes)

@@ -10,7 +10,7 @@ use Rattle.json_lines.specs.Lines.{reason_text}
 use Rattle.extract_call.specs.Answers.{Answer}
 use Rattle.extract_call.specs.Bulk.{bulk_script, bulk_text}
 use Rattle.extract_call.specs.CssLines.{IsCssLine}
-use Rattle.extract_call.specs.PageLines.{IsPageLine, MakesLines}
+use Rattle.extract_call.specs.PageLines.{IsPageLine, IsValuesLine, MakesLines}
 use Rattle.extract_call.specs.Words.{Command, css, run, bulk}
 
 -- what a run writes: one line without any page, or a line for each page, made of the page's name and bytes
@@ -28,13 +28,13 @@ pub record IsScriptRefused (script : List ℕ) (a : Answer) : Type 0 where
 pub record IsByScript (d : Dialect) (script : List ℕ) (line : List ℕ → List ℕ → Answer) : Type 0 where
   pub fields : List Field
   pub reads : IsScript d script fields
-  pub makes : MakesLines fields line
+  pub makes : MakesLines (IsValuesLine fields) line
 
 -- the script reads as fields, and this is the line of one page by them
 pub record IsOneLine (d : Dialect) (script name bytes : List ℕ) (a : Answer) : Type 0 where
   pub fields : List Field
   pub reads : IsScript d script fields
-  pub line : IsPageLine fields name bytes a
+  pub line : IsPageLine (IsValuesLine fields) name bytes a
 
 -- the line that the bulk script has for the bulk page of so many items, whose name is `bulk`
 abbrev pub IsBulkLine : ℕ → Answer → Type 0

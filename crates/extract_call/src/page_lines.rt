@@ -5,8 +5,8 @@ ghost use Rattle.query_script.specs.Ordered.{IsOrdered};
 ghost use Rattle.query_chain.specs.Tasks.{outcome};
 ghost use Rattle.json_lines.specs.Pages.{refused_text};
 ghost use Rattle.extract_call.specs.Answers.{answer_of};
-ghost use Rattle.extract_call.specs.OnePage.{IsDocumentLine, IsTextLine};
-ghost use Rattle.extract_call.specs.PageLines.{most_page, too_long, is_refused, IsPageLine};
+ghost use Rattle.extract_call.specs.OnePage.{IsTextLine};
+ghost use Rattle.extract_call.specs.PageLines.{most_page, too_long, is_refused, IsPageLine, IsValuesLine};
 ghost use Rattle.extract_call.specs.Tasks.{AreTasks};
 
 use crate::answers::Line;
@@ -104,7 +104,7 @@ fn document_answer<S: Axes>(
     source: &S,
 ) -> Result<Line, NoMemory>
     requires { AreTasks fields.now ready.now }
-    ensures { IfOk result (λ line. IsDocumentLine fields.now name.now (S.document source.now) (answer_of line)) }
+    ensures { IfOk result (λ line. IsValuesLine fields.now name.now (S.document source.now) (answer_of line)) }
 {
     let values = values_of(alloc, source, ready)?;
     let refused = holds_refusal(values.as_slice());
@@ -128,7 +128,7 @@ fn text_answer(
 ) -> Result<Line, NoMemory>
     requires ready { AreTasks fields.now ready.now }
     requires short { length text.now ≤ most_page }
-    ensures { IfOk result (λ line. IsTextLine fields.now name.now text.now (answer_of line)) }
+    ensures { IfOk result (λ line. IsTextLine (IsValuesLine fields.now) name.now text.now (answer_of line)) }
 {
     let arena = Bump::new(alloc);
     let grow = ArenaGrow::with_room(&arena, rows_near(text))?;
@@ -150,7 +150,7 @@ pub fn page_answer(
     bytes: &[u8],
 ) -> Result<Line, NoMemory>
     requires { AreTasks fields.now ready.now }
-    ensures { IfOk result (λ line. IsPageLine fields.now name.now bytes.now (answer_of line)) }
+    ensures { IfOk result (λ line. IsPageLine (IsValuesLine fields.now) name.now bytes.now (answer_of line)) }
 {
     if bytes.len() > PAGE_LIMIT {
         return long_answer(alloc, name);

@@ -6,10 +6,10 @@ ghost use Rattle.io_edges.specs.Pages.{page, Lacks};
 ghost use Rattle.io_edges.specs.Sink.{grown, TakesPart};
 ghost use Rattle.query_script.specs.Ordered.{IsOrdered};
 ghost use Rattle.extract_call.specs.Answers.{Answer, answer_of, line_bytes};
-ghost use Rattle.extract_call.specs.Ending.{Ended};
 ghost use Rattle.extract_call.specs.OnePage.{TakesLine, TakesLinePart};
-ghost use Rattle.extract_call.specs.PageLines.{IsPageLine, MakesLines};
+ghost use Rattle.extract_call.specs.PageLines.{IsPageLine, IsValuesLine, MakesLines};
 ghost use Rattle.extract_call.specs.Plans.{over};
+ghost use Rattle.extract_call.specs.Runs.{pages_at, sink_at, Counted, Run};
 ghost use Rattle.extract_call.specs.Tasks.{AreTasks};
 
 use crate::answers::Line;
@@ -35,7 +35,7 @@ fn read_line<P: Pages>(
     ensures begun { Grows (P.begun pages.old) 1 (P.begun pages.new) }
     ensures never_falls { P.faults pages.old ≤ P.faults pages.new }
     ensures uncounted { ¬ IsErrOf result Status.ReadFault → P.faults pages.new ≡ P.faults pages.old }
-    ensures ok { IfOk result (λ line. IfSome (P.told pages.old) (λ told. (bytes : List ℕ) × ((page told name.now ≡ Some bytes) × IsPageLine fields.now name.now bytes (answer_of line)))) }
+    ensures ok { IfOk result (λ line. IfSome (P.told pages.old) (λ told. (bytes : List ℕ) × ((page told name.now ≡ Some bytes) × IsPageLine (IsValuesLine fields.now) name.now bytes (answer_of line)))) }
     ensures read_fault { IsErrOf result Status.ReadFault → Rose (P.faults pages.old) (P.faults pages.new) ⊎ Lacks (P.told pages.old) name.now }
     ensures other { (result ≢ Err Status.Done) × (result ≢ Err Status.Refused) × (result ≢ Err Status.Usage) × (result ≢ Err Status.WriteFault) }
 {
@@ -67,8 +67,8 @@ fn write_page<P: Pages, W: Sink>(
     ensures sink_faults { W.faults sink.old ≤ W.faults sink.new }
     ensures pages_uncounted { ¬ IsErrOf result Status.ReadFault → P.faults pages.new ≡ P.faults pages.old }
     ensures sink_uncounted { ¬ IsErrOf result Status.WriteFault → W.faults sink.new ≡ W.faults sink.old }
-    ensures ok { IfOk result (λ r. (line : List ℕ → List ℕ → Answer) → MakesLines fields.now line → TakesLine line (P.told pages.old) name.now (W.taken sink.old) (W.taken sink.new) r) }
-    ensures err { OnErr result ((line : List ℕ → List ℕ → Answer) → MakesLines fields.now line →
+    ensures ok { IfOk result (λ r. (line : List ℕ → List ℕ → Answer) → MakesLines (IsValuesLine fields.now) line → TakesLine line (P.told pages.old) name.now (W.taken sink.old) (W.taken sink.new) r) }
+    ensures err { OnErr result ((line : List ℕ → List ℕ → Answer) → MakesLines (IsValuesLine fields.now) line →
         (W.taken sink.new ≡ W.taken sink.old) ⊎ TakesLinePart line (P.told pages.old) name.now (W.taken sink.old) (W.taken sink.new)) }
     ensures read_fault { IsErrOf result Status.ReadFault → (Rose (P.faults pages.old) (P.faults pages.new) ⊎ Lacks (P.told pages.old) name.now) × (W.taken sink.new ≡ W.taken sink.old) }
     ensures write_fault { IsErrOf result Status.WriteFault → Rose (W.faults sink.old) (W.faults sink.new) }
@@ -93,16 +93,12 @@ fn write_each<P: Pages, W: Sink>(
     sink: &mut W,
 ) -> Status
     requires { AreTasks fields.now ready.now }
-    ensures told { P.told pages.new ≡ P.told pages.old }
-    ensures page_faults { P.faults pages.old ≤ P.faults pages.new }
-    ensures sink_faults { W.faults sink.old ≤ W.faults sink.new }
-    ensures pages_uncounted { result ≢ Status.ReadFault → P.faults pages.new ≡ P.faults pages.old }
-    ensures sink_uncounted { result ≢ Status.WriteFault → W.faults sink.new ≡ W.faults sink.old }
-    ensures idle { names.now ≡ [] → pages.new ≡ pages.old }
-    ensures ended { (line : List ℕ → List ℕ → Answer) → MakesLines fields.now line → Ended (over line (map string_bytes names.now)) (P.told pages.old)
-        (P.begun pages.old) (P.begun pages.new) (P.faults pages.old) (P.faults pages.new)
-        (W.taken sink.old) (W.taken sink.new) (W.faults sink.old) (W.faults sink.new) result }
-    ensures write_fault { result ≡ Status.WriteFault → Rose (W.faults sink.old) (W.faults sink.new) }
+    ensures run { (line : List ℕ → List ℕ → Answer) → MakesLines (IsValuesLine fields.now) line → Run (over line (map string_bytes names.now)) (pages_at pages.old (P.told pages.old) (P.begun pages.old) (P.faults pages.old))
+        (pages_at pages.new (P.told pages.new) (P.begun pages.new) (P.faults pages.new))
+        (sink_at (W.taken sink.old) (W.faults sink.old)) (sink_at (W.taken sink.new) (W.faults sink.new)) result }
+    ensures counts { Counted (pages_at pages.old (P.told pages.old) (P.begun pages.old) (P.faults pages.old))
+        (pages_at pages.new (P.told pages.new) (P.begun pages.new) (P.faults pages.new))
+        (sink_at (W.taken sink.old) (W.faults sink.old)) (sink_at (W.taken sink.new) (W.faults sink.new)) result }
     ensures other { result ≢ Status.Usage }
 {
     let mut refused = false;
@@ -129,16 +125,12 @@ pub fn write_pages<P: Pages, W: Sink>(
     sink: &mut W,
 ) -> Status
     requires { AllByRecursion IsOrdered fields.now }
-    ensures told { P.told pages.new ≡ P.told pages.old }
-    ensures page_faults { P.faults pages.old ≤ P.faults pages.new }
-    ensures sink_faults { W.faults sink.old ≤ W.faults sink.new }
-    ensures pages_uncounted { result ≢ Status.ReadFault → P.faults pages.new ≡ P.faults pages.old }
-    ensures sink_uncounted { result ≢ Status.WriteFault → W.faults sink.new ≡ W.faults sink.old }
-    ensures idle { names.now ≡ [] → pages.new ≡ pages.old }
-    ensures ended { (line : List ℕ → List ℕ → Answer) → MakesLines fields.now line → Ended (over line (map string_bytes names.now)) (P.told pages.old)
-        (P.begun pages.old) (P.begun pages.new) (P.faults pages.old) (P.faults pages.new)
-        (W.taken sink.old) (W.taken sink.new) (W.faults sink.old) (W.faults sink.new) result }
-    ensures write_fault { result ≡ Status.WriteFault → Rose (W.faults sink.old) (W.faults sink.new) }
+    ensures run { (line : List ℕ → List ℕ → Answer) → MakesLines (IsValuesLine fields.now) line → Run (over line (map string_bytes names.now)) (pages_at pages.old (P.told pages.old) (P.begun pages.old) (P.faults pages.old))
+        (pages_at pages.new (P.told pages.new) (P.begun pages.new) (P.faults pages.new))
+        (sink_at (W.taken sink.old) (W.faults sink.old)) (sink_at (W.taken sink.new) (W.faults sink.new)) result }
+    ensures counts { Counted (pages_at pages.old (P.told pages.old) (P.begun pages.old) (P.faults pages.old))
+        (pages_at pages.new (P.told pages.new) (P.begun pages.new) (P.faults pages.new))
+        (sink_at (W.taken sink.old) (W.faults sink.old)) (sink_at (W.taken sink.new) (W.faults sink.new)) result }
     ensures other { result ≢ Status.Usage }
 {
     match prepare_fields(alloc, fields.as_slice()) {

@@ -1,10 +1,10 @@
 //! Lines given to the sink.
-ghost use Rattle.std.specs.Prelude.{◌≡◌, ◌≢◌, ◌≤◌, ℕ, List, Option, false, IfOk, IsOk, IsOkAnd, IsErrOf, OnErr, Err};
+ghost use Rattle.std.specs.Prelude.{◌≡◌, ◌≢◌, ◌≤◌, false, IfOk, IsOk, IsOkAnd, IsErrOf, OnErr, Err};
 ghost use Rattle.io_edges.specs.Counts.{Rose};
 ghost use Rattle.io_edges.specs.Sink.{grown, TakesPart};
 ghost use Rattle.extract_call.specs.Answers.{Answer, answer_of, line_bytes};
-ghost use Rattle.extract_call.specs.Ending.{Ended};
 ghost use Rattle.extract_call.specs.Plans.{alone};
+ghost use Rattle.extract_call.specs.Runs.{PagesAt, sink_at, Counted, Run};
 
 use crate::answers::Line;
 use crate::status::Status;
@@ -34,14 +34,12 @@ pub fn write_line<W: Sink>(line: Line, sink: &mut W) -> Result<bool, Status>
 
 /// Writes the one line of a run without pages.
 pub fn write_alone<W: Sink>(made: Result<Line, NoMemory>, sink: &mut W) -> Status
-    ensures ended { (told : Option (List (List ℕ × List ℕ))) → (b : ℕ) → (f : ℕ) → (a : Answer) → IfOk made (λ line. answer_of line ≡ a) →
-        Ended (alone a) told b b f f (W.taken sink.old) (W.taken sink.new) (W.faults sink.old) (W.faults sink.new) result }
-    ensures never_falls { W.faults sink.old ≤ W.faults sink.new }
-    ensures uncounted { result ≢ Status.WriteFault → W.faults sink.new ≡ W.faults sink.old }
+    ensures run { (a : Answer) → IfOk made (λ line. answer_of line ≡ a) → (none : PagesAt (Unit {0})) →
+        Run (alone a) none none (sink_at (W.taken sink.old) (W.faults sink.old)) (sink_at (W.taken sink.new) (W.faults sink.new)) result }
+    ensures counts { (none : PagesAt (Unit {0})) → Counted none none (sink_at (W.taken sink.old) (W.faults sink.old)) (sink_at (W.taken sink.new) (W.faults sink.new)) result }
     ensures done { result ≡ Status.Done → IsOkAnd made (λ line. line.refused ≡ false) }
-    ensures write_fault { result ≡ Status.WriteFault → Rose (W.faults sink.old) (W.faults sink.new) }
     ensures made { result ≢ Status.Memory → IsOk made }
-    ensures other { (result ≢ Status.Usage) × (result ≢ Status.ReadFault) }
+    ensures other { result ≢ Status.Usage }
 {
     let Ok(line) = made else {
         return Status::Memory;

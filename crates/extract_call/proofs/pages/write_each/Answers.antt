@@ -1,6 +1,8 @@
-use Rattle.std.proofs.Common.{◌≡◌, arith, length, string_bytes, map, ◌∙◌}
+use Rattle.std.proofs.Common.{◌≡◌, ℕ, arith, length, string_bytes, map, ◌∙◌, ap}
 use Rattle.std.specs.Prelude.{◌||◌}
-use Rattle.extract_call.proofs.Walk.{ended_at, ended_done, ended_refused, next_page, name_at, place_within, places}
+use Rattle.extract_call.specs.Plans.{over}
+use Rattle.extract_call.proofs.Complete.{run_of, unfaulted}
+use Rattle.extract_call.proofs.Walk.{rose_from, ended_at, ended_done, ended_refused, next_page, name_at, place_within, places}
 use Rattle.extract_call.proofs.pages.write_each.Goals as goal
 use Rattle.extract_call.proofs.pages.write_each.Goals.{then-refused, else-refused}
 
@@ -18,23 +20,48 @@ loop-name-preserved g c =
       written = λ line makes. rw or (next_page line (g.P.Pages.told c.args.pages.now) (map string_bytes c.args.names.now) c.loop-name.name-index _ _ _ c.loop-name.refused c.in-Ok.one (string_bytes c.name-item.result) (c.loop-name.invariant.written line makes) (place_within c.args.names.now c.loop-name.name-index c.loop-name-test.true) here (ok line makes));
     }
 
-pub returns-in-Err-clause-ended : goal.returns-in-Err-clause-ended
-returns-in-Err-clause-ended g c = λ line makes.
+pub returns-in-Err-clause-run : goal.returns-in-Err-clause-run
+returns-in-Err-clause-run g c = λ line makes.
     let here = name_at c.args.names.now c.loop-name.name-index c.name-item.result c.name-item.is c.loop-name-test.true in
+    let within = place_within c.args.names.now c.loop-name.name-index c.loop-name-test.true in
     let part = rw (c.loop-name.invariant.told, c.as_str.ensures.value) at c.in-Err.ensures.err in
     let cause = rw (c.loop-name.invariant.told, c.as_str.ensures.value) at c.in-Err.ensures.read_fault in
-    ended_at line (g.P.Pages.told c.args.pages.now) (map string_bytes c.args.names.now) c.loop-name.name-index _ _ _ c.loop-name.refused (string_bytes c.name-item.result)
-    _ _ _ _ _ _ _ _ _ _ (c.loop-name.invariant.written line makes) (place_within c.args.names.now c.loop-name.name-index c.loop-name-test.true) here c.loop-name.invariant.begun c.in-Err.ensures.begun (omega (arith, c.loop-name.invariant.pages_uncounted)) (omega (arith, c.loop-name.invariant.sink_uncounted)) (part line makes)
-    (λ e. cause (cc)) (λ e. c.in-Err.ensures.write_fault (cc)) (λ e. c.in-Err.ensures.other.0 (cc)) (λ e. c.in-Err.ensures.other.1 (cc)) (λ e. c.in-Err.ensures.other.2 (cc))
+    run_of (over line (map string_bytes c.args.names.now)) _ _ _ _ _
+    (ended_at line (g.P.Pages.told c.args.pages.now) (map string_bytes c.args.names.now) c.loop-name.name-index _ _ _ c.loop-name.refused (string_bytes c.name-item.result)
+    _ _ _ _ _ _ _ _ _ _ (c.loop-name.invariant.written line makes) within here c.loop-name.invariant.begun c.in-Err.ensures.begun (omega (arith, c.loop-name.invariant.pages_uncounted)) (omega (arith, c.loop-name.invariant.sink_uncounted)) (part line makes)
+    (λ e. cause (cc)) (λ e. c.in-Err.ensures.write_fault (cc)) (λ e. c.in-Err.ensures.other.0 (cc)) (λ e. c.in-Err.ensures.other.1 (cc)) (λ e. c.in-Err.ensures.other.2 (cc)))
+    (λ none. absurd (let z : length (map string_bytes c.args.names.now) ≡ 0 = ap length none in omega (arith, within)))
 
-pub returns-then-refused-2-clause-ended : goal.returns-then-refused-2-clause-ended
-returns-then-refused-2-clause-ended g c = λ line makes.
+pub returns-in-Err-clause-counts : goal.returns-in-Err-clause-counts
+returns-in-Err-clause-counts g c = record {
+  told = c.in-Err.ensures.told ∙ c.loop-name.invariant.told;
+  write_fault = λ z. rose_from _ _ _ (omega (arith, c.loop-name.invariant.sink_uncounted)) (c.in-Err.ensures.write_fault (cc));
+  page_faults = omega (arith, c.loop-name.invariant.pages_uncounted, c.in-Err.ensures.page_faults);
+  sink_faults = omega (arith, c.loop-name.invariant.sink_uncounted, c.in-Err.ensures.sink_faults);
+  pages_uncounted = λ z. c.in-Err.ensures.pages_uncounted (λ e. z (cc)) ∙ c.loop-name.invariant.pages_uncounted;
+  sink_uncounted = λ z. c.in-Err.ensures.sink_uncounted (λ e. z (cc)) ∙ c.loop-name.invariant.sink_uncounted;
+}
+
+pub returns-then-refused-2-clause-run : goal.returns-then-refused-2-clause-run
+returns-then-refused-2-clause-run g c = λ line makes.
     let here = rw c.if-refused-2.true at (c.loop-name.invariant.written line makes) in
     let last : c.loop-name.name-index ≡ length (map string_bytes c.args.names.now) = omega (arith, places c.args.names.now) in
-    ended_refused line (g.P.Pages.told c.args.pages.now) (map string_bytes c.args.names.now) c.loop-name.name-index _ _ _ _ _ _ _ _ here last c.loop-name.invariant.begun
+    run_of (over line (map string_bytes c.args.names.now)) _ _ _ _ _
+    (ended_refused line (g.P.Pages.told c.args.pages.now) (map string_bytes c.args.names.now) c.loop-name.name-index _ _ _ _ _ _ _ _ here last c.loop-name.invariant.begun)
+    (λ none. c.loop-name.invariant.idle (last ∙ ap length none))
 
-pub returns-else-refused-2-clause-ended : goal.returns-else-refused-2-clause-ended
-returns-else-refused-2-clause-ended g c = λ line makes.
+pub returns-then-refused-2-clause-counts : goal.returns-then-refused-2-clause-counts
+returns-then-refused-2-clause-counts g c =
+    unfaulted _ _ _ _ _ c.loop-name.invariant.told c.loop-name.invariant.pages_uncounted c.loop-name.invariant.sink_uncounted (λ z. cc)
+
+pub returns-else-refused-2-clause-run : goal.returns-else-refused-2-clause-run
+returns-else-refused-2-clause-run g c = λ line makes.
     let here = rw c.if-refused-2.false at (c.loop-name.invariant.written line makes) in
     let last : c.loop-name.name-index ≡ length (map string_bytes c.args.names.now) = omega (arith, places c.args.names.now) in
-    ended_done line (g.P.Pages.told c.args.pages.now) (map string_bytes c.args.names.now) c.loop-name.name-index _ _ _ _ _ _ _ _ here last c.loop-name.invariant.begun
+    run_of (over line (map string_bytes c.args.names.now)) _ _ _ _ _
+    (ended_done line (g.P.Pages.told c.args.pages.now) (map string_bytes c.args.names.now) c.loop-name.name-index _ _ _ _ _ _ _ _ here last c.loop-name.invariant.begun)
+    (λ none. c.loop-name.invariant.idle (last ∙ ap length none))
+
+pub returns-else-refused-2-clause-counts : goal.returns-else-refused-2-clause-counts
+returns-else-refused-2-clause-counts g c =
+    unfaulted _ _ _ _ _ c.loop-name.invariant.told c.loop-name.invariant.pages_uncounted c.loop-name.invariant.sink_uncounted (λ z. cc)
