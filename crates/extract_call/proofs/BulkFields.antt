@@ -1,14 +1,13 @@
 -- The script of the bulk page is short and has few fields.
-use Rattle.std.proofs.Common.{◌≡◌, ℕ, ◌<◌, List, length, refl, arith, inl, inr, ◌⊎◌}
+use Rattle.std.proofs.Common.{◌≡◌, length, refl, arith, inl, inr}
 use Rattle.text_base.specs.declared.reasons.ScriptFault.{ScriptFault}
 use Rattle.text_base.specs.declared.reasons.ScriptFault.TheVariants as script
 use Rattle.css_selectors.specs.declared.selector.Dialect.TheVariants.{Html}
-use Rattle.query_script.specs.declared.script.Field.{Field}
 use Rattle.query_script.specs.Cuts.{fields_of}
-use Rattle.query_script.specs.Fields.{IsScript, IsScriptFault}
+use Rattle.query_script.specs.Fields.{IsScriptFault}
+use Rattle.extract_call.specs.Below.{Below}
 use Rattle.extract_call.specs.Bulk.{bulk_script}
 use Rattle.extract_call.specs.Laws.{BulkLaw}
-use Rattle.extract_call.proofs.Readers.{some_script}
 
 five_fields : length (fields_of bulk_script) ≡ 5
 five_fields = refl
@@ -18,8 +17,8 @@ not_refused script.Long h = omega (arith, h)
 not_refused script.Fields h = omega (arith, h.many, five_fields)
 not_refused script.Memory h = h
 
-pub bulk_reads : BulkLaw
-bulk_reads = elim (some_script Html bulk_script) [
+pub bulk_reads : Below → BulkLaw
+bulk_reads below = elim (below.some_script Html bulk_script) [
   | inl read ↦ read
   | inr why ↦ absurd (not_refused why.0 why.1)
 ]

@@ -1,5 +1,5 @@
 -- The bulk page, piece by piece.
-use Rattle.std.proofs.Common.{◌≡◌, refl, ℕ, zero, suc, ◌+◌, List, [], ◌++◌, ap, sym, ◌∙◌, append_assoc, arith, add-one, add-zero, append-nil, Result, OnOk, Ok, Err}
+use Rattle.std.proofs.Common.{◌≡◌, ℕ, zero, suc, ◌+◌, List, ◌++◌, ap, sym, ◌∙◌, append_assoc, arith, add-one, add-zero, append-nil, Result, OnOk, Ok, Err}
 use Rattle.std.specs.Prelude.{flat_map}
 use Rattle.std.specs.List.{range_with_len}
 use Rattle.extract_call.specs.Bulk.{bulk_item}

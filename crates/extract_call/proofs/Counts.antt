@@ -1,5 +1,5 @@
 -- Numbers in words: what `count_of` gives, case by case.
-use Rattle.std.proofs.Common.{◌≡◌, ◌≢◌, ℕ, zero, suc, ◌+◌, ◌<◌, ◌≤◌, List, [], ◌∷◌, length, take, get_or, refl, arith, Option, Some, None, ◌∙◌, ap}
+use Rattle.std.proofs.Common.{◌≡◌, ℕ, zero, suc, ◌<◌, ◌≤◌, List, [], ◌∷◌, length, take, get_or, refl, arith, Some, None, ap}
 use Rattle.std.specs.Prelude.{Bool, true, false, nat_le, ◌&&◌}
 use Rattle.std.specs.List.{list_all}
 use Rattle.extract_call.specs.Words.{count_of, is_digit, digits_value}

@@ -1,5 +1,5 @@
 -- What is found of a run piece by piece, and that it is all that is promised of one.
-use Rattle.std.proofs.Common.{◌≡◌, ◌≢◌, ℕ, ◌⊎◌, ◌<◌, true, false, List, [], length, Option, ap, refl, arith}
+use Rattle.std.proofs.Common.{◌≡◌, ◌≢◌, ℕ, ◌⊎◌, true, false, List, length, Option}
 use Rattle.std.specs.Prelude.{IfSome}
 use Rattle.io_edges.specs.Counts.{Rose, Grows}
 use Rattle.io_edges.specs.Sink.{TakesPart}

@@ -11,7 +11,6 @@ pub mod PageExists
 pub mod PageReadings
 pub mod PlanExists
 pub mod Plans
-pub mod Readers
 pub mod Readings
 pub mod Tasks
 pub mod Turns

@@ -1,15 +1,13 @@
 -- Lists of lines, and the lines of the first pages of a run.
-use Rattle.std.proofs.Common.{◌≡◌, ◌≢◌, ℕ, zero, suc, ◌+◌, ◌<◌, ◌≤◌, ◌++◌, List, [], ◌∷◌, Option, Some, None, length, take, drop, refl, sym, ◌∙◌, ap, append_assoc, arith, inl, inr, add-one, string_bytes, map, get_or}
-use Rattle.std.specs.Prelude.{IfSome, Bool, true, false, ◌||◌, ◌⊎◌, String, slice_index_or}
+use Rattle.std.proofs.Common.{◌≡◌, ◌≢◌, ℕ, zero, suc, ◌<◌, ◌++◌, List, [], ◌∷◌, Option, Some, None, length, take, drop, refl, sym, ◌∙◌, ap, append_assoc, arith}
+use Rattle.std.specs.Prelude.{Bool, true, false, ◌||◌, slice_index_or}
 use Rattle.std.specs.Option.{option_map_or}
-use Rattle.std.specs.declared.alloc.Global.{Global}
 use Rattle.std.proofs.lemmas.List.{append-nil}
-use Rattle.io_edges.specs.Pages.{page, Lacks}
+use Rattle.io_edges.specs.Pages.{page}
 use Rattle.io_edges.specs.Sink.{grown, TakesPart}
-use Rattle.io_edges.proofs.SinkLemmas.{grown-grown, grown-nil, takes_nothing}
+use Rattle.io_edges.proofs.SinkLemmas.{grown-grown, takes_nothing}
 use Rattle.extract_call.specs.Answers.{Answer, bytes_of, refuses, line_bytes}
 use Rattle.extract_call.specs.Output.{page_answers, HasAll}
-use Rattle.extract_call.specs.OnePage.{TakesLine, TakesLinePart}
 
 pub part_of_nothing : (old : Option (List ℕ)) (bytes : List ℕ) → TakesPart old bytes old
 part_of_nothing old bytes = (bytes, takes_nothing old bytes)

@@ -1,5 +1,5 @@
 -- The line of a page that was read, and what was written of it.
-use Rattle.std.proofs.Common.{◌≡◌, refl, ℕ, List, length, Option, Some, None, inl, sym, ◌∙◌, ap, ap₂, subst}
+use Rattle.std.proofs.Common.{◌≡◌, refl, ℕ, List, Option, Some, None, inl, sym, ◌∙◌, ap, subst}
 use Rattle.std.specs.Prelude.{IfSome, IfOk, Result, Ok, Bool, true}
 use Rattle.text_base.specs.declared.memory.NoMemory.{NoMemory}
 use Rattle.extract_call.specs.declared.answers.Line.{Line}
@@ -7,6 +7,7 @@ use Rattle.io_edges.specs.Pages.{page, Has, IsTooLong}
 use Rattle.io_edges.specs.Sink.{grown, TakesPart}
 use Rattle.query_script.specs.declared.script.Field.{Field}
 use Rattle.json_lines.specs.Pages.{refused_text}
+use Rattle.extract_call.specs.Below.{Below}
 use Rattle.extract_call.specs.Answers.{Answer, line_bytes}
 use Rattle.extract_call.specs.OnePage.{TakesLine, TakesLinePart}
 use Rattle.extract_call.specs.PageLines.{most_page, too_long, IsPageLine, IsValuesLine, MakesLines}
@@ -28,19 +29,19 @@ line_of_long fields name None a h e = tt
 line_of_long fields name (Some pages) a h e = (h.0, (h.1, inl (record { fault = too_long; cause = inl (record { long = h.2; is = refl }); line = e })))
 
 -- the line was taken
-pub line_taken : (fields : List Field) (line : List ℕ → List ℕ → Answer) → MakesLines (IsValuesLine fields) line → (told : Option (List (List ℕ × List ℕ))) (name : List ℕ) (old new : Option (List ℕ)) (a : Answer) (refused : Bool)
+pub line_taken : Below → (fields : List Field) (line : List ℕ → List ℕ → Answer) → MakesLines (IsValuesLine fields) line → (told : Option (List (List ℕ × List ℕ))) (name : List ℕ) (old new : Option (List ℕ)) (a : Answer) (refused : Bool)
     → IsToldLine fields told name a → a.refused ≡ refused → new ≡ grown old (line_bytes a) → TakesLine line told name old new refused
-line_taken fields line makes None name old new a refused h r t = tt
-line_taken fields line makes (Some pages) name old new a refused h r t =
-    let same : a ≡ line name h.0 = one_page_line fields name h.0 a (line name h.0) h.1.1 (makes name h.0) in
+line_taken below fields line makes None name old new a refused h r t = tt
+line_taken below fields line makes (Some pages) name old new a refused h r t =
+    let same : a ≡ line name h.0 = one_page_line below fields name h.0 a (line name h.0) h.1.1 (makes name h.0) in
     (h.0, (h.1.0, (ap (λ (x : Answer). x.refused) (sym same) ∙ r, t ∙ ap (λ (x : Answer). grown old (line_bytes x)) same)))
 
 -- a part of the line was taken
-pub line_part : (fields : List Field) (line : List ℕ → List ℕ → Answer) → MakesLines (IsValuesLine fields) line → (told : Option (List (List ℕ × List ℕ))) (name : List ℕ) (old new : Option (List ℕ)) (a : Answer)
+pub line_part : Below → (fields : List Field) (line : List ℕ → List ℕ → Answer) → MakesLines (IsValuesLine fields) line → (told : Option (List (List ℕ × List ℕ))) (name : List ℕ) (old new : Option (List ℕ)) (a : Answer)
     → IsToldLine fields told name a → TakesPart old (line_bytes a) new → TakesLinePart line told name old new
-line_part fields line makes None name old new a h t = tt
-line_part fields line makes (Some pages) name old new a h t =
-    let same : a ≡ line name h.0 = one_page_line fields name h.0 a (line name h.0) h.1.1 (makes name h.0) in
+line_part below fields line makes None name old new a h t = tt
+line_part below fields line makes (Some pages) name old new a h t =
+    let same : a ≡ line name h.0 = one_page_line below fields name h.0 a (line name h.0) h.1.1 (makes name h.0) in
     (h.0, (h.1.0, subst (λ (x : Answer). TakesPart old (line_bytes x) new) same t))
 
 -- what holds of a made line

@@ -1,6 +1,6 @@
 -- Each command has one plan at most.
 use Rattle.std.proofs.Common.{◌≡◌, refl, ℕ, ◌<◌, ◌≤◌, true, false, List, ◌++◌, length, ap, ap₂, sym, ◌∙◌, subst, Option, Some, None, arith, inl, inr, ◌⊎◌, codes}
-use Rattle.std.specs.Prelude.{Result, IfOk, IsOk, IsOkAnd, Ok, Err}
+use Rattle.std.specs.Prelude.{Result, IfOk, IsOkAnd, Ok, Err}
 use Rattle.std.specs.List.{AllByRecursion}
 use Rattle.query_script.specs.Ordered.{IsOrdered}
 use Rattle.std.proofs.Math.Path.{fun_ext}
@@ -14,13 +14,13 @@ use Rattle.css_selectors.specs.declared.selector.Dialect.{Dialect}
 use Rattle.css_selectors.specs.declared.selector.Dialect.TheVariants.{Html}
 use Rattle.css_selectors.specs.declared.selector.SelectorList.{SelectorList}
 use Rattle.css_parser.specs.Selecting.{Accepts}
-use Rattle.css_parser.proofs.SelectingLemmas.{one_reading as one_list}
 use Rattle.css_printed.specs.Printed.{printed}
 use Rattle.query_script.specs.declared.script.Field.{Field}
 use Rattle.query_script.specs.Fields.{IsScript, IsScriptFault}
 use Rattle.json_lines.specs.Lines.{css_text, reason_text}
 use Rattle.extract_call.specs.declared.answers.Line.{Line}
 use Rattle.extract_call.specs.Answers.{Answer, answer_of}
+use Rattle.extract_call.specs.Below.{Below}
 use Rattle.extract_call.specs.Bulk.{bulk_script, bulk_text}
 use Rattle.extract_call.specs.CssLines.{IsKept, IsCssLine, IsListLine, IsRefusalLine, IsRefusedFor, most_xpath}
 use Rattle.extract_call.specs.Laws.{OnePlan, HasQueries}
@@ -28,105 +28,13 @@ use Rattle.extract_call.specs.PageLines.{IsPageLine, IsValuesLine, MakesLines}
 use Rattle.extract_call.specs.Plans.{Plan, alone, over, IsPlan, IsScriptRefused, IsBulkLine, ForPlan}
 use Rattle.extract_call.specs.Words.{Command, css, run, bulk}
 use Rattle.extract_call.proofs.PageReadings.{one_page_line}
-use Rattle.extract_call.proofs.Readers.{one_script, one_script_fault, read_or_refused}
 use Rattle.extract_call.proofs.Readings.{one_or_other, one_reason, some_reading, within_or_past}
-
-list_and_refusal : (d : Dialect) (text : List ℕ) (a b : Answer) → IsListLine d text a → IsRefusalLine d text b → ⊥
-list_and_refusal d text a b h g = too_long g.why (one_or_other d text h.list h.accepted g.why g.cause) g.cause
-  where
-    too_long : (why : SelectorFault) → why ≡ fault.XPathLong → IsRefusedFor d text why → ⊥
-    too_long fault.XPathLong e r =
-        let same : length (printed d r.list) ≡ length (printed d h.list) = ap (λ l. length (printed d l)) (one_list text r.list h.list r.accepted h.accepted) in
-        let long : most_xpath < length (printed d r.list) = r.long in
-        let short : length (printed d h.list) ≤ most_xpath = h.short in omega arith
-    too_long _ e r = let x = e in cc
-
--- a selector has one line
-pub one_line : (d : Dialect) (text : List ℕ) (a b : Answer) → IsCssLine d text a → IsCssLine d text b → a ≡ b
-one_line d text a b (inl h) (inl g) =
-    h.line ∙ ap (λ (l : SelectorList). record { text = css_text l.items (printed d l); refused = false }) (one_list text h.list g.list h.accepted g.accepted) ∙ sym g.line
-one_line d text a b (inl h) (inr g) = absurd (list_and_refusal d text a b h g)
-one_line d text a b (inr h) (inl g) = absurd (list_and_refusal d text b a g h)
-one_line d text a b (inr h) (inr g) =
-    h.line ∙ ap (λ why. record { text = reason_text (codes "css." ++ selector_word why); refused = true }) (one_reason d text h.why g.why h.cause g.cause) ∙ sym g.line
-
--- and it has some line
-pub some_line : (d : Dialect) (text : List ℕ) → (a : Answer) × IsCssLine d text a
-some_line d text = elim (some_reading d text) [
-  | inl list ↦ by_length list.0 list.1 (within_or_past (length (printed d list.0)) most_xpath)
-  | inr why ↦ (record { text = reason_text (codes "css." ++ selector_word why.0); refused = true }, inr (record { why = why.0; cause = why.1; line = refl }))
-]
-  where
-    by_length : (list : SelectorList) → Accepts text list → (length (printed d list) ≤ most_xpath) ⊎ (most_xpath < length (printed d list))
-        → (a : Answer) × IsCssLine d text a
-    by_length list h (inl short) = (record { text = css_text list.items (printed d list); refused = false }, inl (record { list = list; accepted = h; short = short; line = refl }))
-    by_length list h (inr long) = (
-      record { text = reason_text (codes "css." ++ selector_word fault.XPathLong); refused = true },
-      inr (record { why = fault.XPathLong; cause = record { list = list; accepted = h; long = long }; line = refl }),
-    )
-
--- a script that is refused as a whole has one line
-same_refusal : (s : List ℕ) (a b : Answer) → IsScriptRefused s a → IsScriptRefused s b → a ≡ b
-same_refusal s a b h k =
-    h.line ∙ ap (λ why. record { text = reason_text (codes "script." ++ script_word why); refused = true }) (one_script_fault s h.why k.why h.cause k.cause) ∙ sym k.line
-
--- what is made by the fields of a script is made by whichever fields it reads as
-makes_for : (d : Dialect) (s : List ℕ) (fields other : List Field) → IsScript d s fields → IsScript d s other → (line : List ℕ → List ℕ → Answer) → MakesLines (IsValuesLine other) line → MakesLines (IsValuesLine fields) line
-makes_for d s fields other h k line makes = subst (λ x. MakesLines (IsValuesLine x) line) (one_script d s other fields k h) makes
-
-one_bulk_line : (n : ℕ) (a b : Answer) → IsBulkLine n a → IsBulkLine n b → a ≡ b
-one_bulk_line n a b (inl h) (inl k) = same_refusal bulk_script a b h k
-one_bulk_line n a b (inl h) (inr k) = absurd (read_or_refused Html bulk_script k.fields h.why k.reads h.cause)
-one_bulk_line n a b (inr h) (inl k) = absurd (read_or_refused Html bulk_script h.fields k.why h.reads k.cause)
-one_bulk_line n a b (inr h) (inr k) =
-    let same = one_script Html bulk_script k.fields h.fields k.reads h.reads in
-    one_page_line h.fields (codes "bulk") (bulk_text n) a b h.line (subst (λ x. IsPageLine (IsValuesLine x) (codes "bulk") (bulk_text n) b) same k.line)
 
 -- the line that was made of the bulk page
 pub bulk_line : (n : ℕ) (fields : List Field) (bytes : List ℕ) (made : Result Line NoMemory) → IsScript Html bulk_script fields → bytes ≡ bulk_text n
     → IfOk made (λ l. IsPageLine (IsValuesLine fields) (codes "bulk") bytes (answer_of l)) → IfOk made (λ l. IsBulkLine n (answer_of l))
 bulk_line n fields bytes made reads same h =
     IfOk-weaker made _ _ (λ l is. inr (record { fields = fields; reads = reads; line = subst (λ x. IsPageLine (IsValuesLine fields) (codes "bulk") x (answer_of l)) same is })) h
-
-pub one_plan : OnePlan
-one_plan (css d s) (alone a) (alone b) h k = ap alone (one_line d s a b h k)
-one_plan (css d s) (alone a) (over m q) h k = absurd k
-one_plan (css d s) (over l p) other h k = absurd h
-one_plan (run d s names) (alone a) (alone b) h k = ap alone (same_refusal s a b h k)
-one_plan (run d s names) (alone a) (over m q) h k = absurd (read_or_refused d s k.1.fields h.why k.1.reads h.cause)
-one_plan (run d s names) (over l p) (alone b) h k = absurd (read_or_refused d s h.1.fields k.why h.1.reads k.cause)
-one_plan (run d s names) (over l p) (over m q) h k =
-    let makes : MakesLines (IsValuesLine h.1.fields) m = makes_for d s h.1.fields k.1.fields h.1.reads k.1.reads m k.1.makes in
-    let same : l ≡ m = fun_ext (λ name. fun_ext (λ bytes. one_page_line h.1.fields name bytes (l name bytes) (m name bytes) (h.1.makes name bytes) (makes name bytes))) in
-    ap₂ over same (h.0 ∙ sym k.0)
-one_plan (bulk n) (alone a) (alone b) h k = ap alone (one_bulk_line n a b h k)
-one_plan (bulk n) (alone a) (over m q) h k = absurd k
-one_plan (bulk n) (over l p) other h k = absurd h
-
--- ---- what holds of the line that was made holds of the plan
-
-pub of_css : (d : Dialect) (text : List ℕ) (made : Result Line NoMemory) (P : Plan → Type 0) → IfOk made (λ l. IsCssLine d text (answer_of l))
-    → ((a : Answer) → IfOk made (λ l. answer_of l ≡ a) → P (alone a)) → (plan : Plan) → IsPlan (css d text) plan → P plan
-of_css d text made P line each (alone a) h = each a (IfOk-weaker made _ _ (λ l is_line. one_line d text (answer_of l) a is_line h) line)
-of_css d text made P line each (over page names) h = absurd h
-
-pub of_bulk : (n : ℕ) (made : Result Line NoMemory) (P : Plan → Type 0) → IfOk made (λ l. IsBulkLine n (answer_of l))
-    → ((a : Answer) → IfOk made (λ l. answer_of l ≡ a) → P (alone a)) → (plan : Plan) → IsPlan (bulk n) plan → P plan
-of_bulk n made P line each (alone a) h = each a (IfOk-weaker made _ _ (λ l is_line. one_bulk_line n (answer_of l) a is_line h) line)
-of_bulk n made P line each (over page names) h = absurd h
-
--- a script that reads as fields
-pub of_script : (d : Dialect) (s : List ℕ) (names : List (List ℕ)) (fields : List Field) (P : Plan → Type 0) → IsScript d s fields
-    → ((line : List ℕ → List ℕ → Answer) → MakesLines (IsValuesLine fields) line → P (over line names)) → (plan : Plan) → IsPlan (run d s names) plan → P plan
-of_script d s names fields P reads each (alone a) h = absurd (read_or_refused d s fields h.why reads h.cause)
-of_script d s names fields P reads each (over line pages) h =
-    subst (λ x. P (over line x)) (sym h.0) (each line (makes_for d s fields h.1.fields reads h.1.reads line h.1.makes))
-
--- a script that is refused as a whole
-pub of_refusal : (d : Dialect) (s : List ℕ) (names : List (List ℕ)) (why : ScriptFault) (made : Result Line NoMemory) (P : Plan → Type 0) → IsScriptFault s why
-    → IfOk made (λ l. IsScriptRefused s (answer_of l)) → ((a : Answer) → IfOk made (λ l. answer_of l ≡ a) → P (alone a)) → (plan : Plan) → IsPlan (run d s names) plan → P plan
-of_refusal d s names why made P cause line each (alone a) h = each a (IfOk-weaker made _ _ (λ l is_line. same_refusal s (answer_of l) a is_line h) line)
-of_refusal d s names why made P cause line each (over page pages) h = absurd (read_or_refused d s h.1.fields why h.1.reads cause)
 
 -- what follows for each plan
 pub for_plan : (said : Option Command) (P Q : Plan → Type 0) → ((plan : Plan) → P plan → Q plan) → ForPlan said P → ForPlan said Q
@@ -150,10 +58,104 @@ of_command d e text other says {Ends = Ends} keeps =
     let P : Dialect → List ℕ → Type 0 = λ x t. (list : SelectorList) → Accepts t list → Ends → IsKept x list in
     subst (λ (x : Dialect). P x other) one (subst (λ (t : List ℕ). P d t) two keeps)
 
--- the queries of a script that was read, whichever fields it reads as
-pub ordered_for : (d : Dialect) (text : List ℕ) (fields : List Field) → IsScript d text fields → AllByRecursion IsOrdered fields → HasQueries d text
-ordered_for d text fields reads ordered other also = subst (λ (x : List Field). AllByRecursion IsOrdered x) (one_script d text fields other reads also) ordered
+-- ---- what follows from what the crates below promise
 
--- a script that is refused as a whole has no queries
-pub none_refused : (d : Dialect) (text : List ℕ) (why : ScriptFault) → IsScriptFault text why → HasQueries d text
-none_refused d text why cause fields reads = absurd (read_or_refused d text fields why reads cause)
+module _ (below : Below) where
+  list_and_refusal : (d : Dialect) (text : List ℕ) (a b : Answer) → IsListLine d text a → IsRefusalLine d text b → ⊥
+  list_and_refusal d text a b h g = too_long g.why (one_or_other below d text h.list h.accepted g.why g.cause) g.cause
+    where
+      too_long : (why : SelectorFault) → why ≡ fault.XPathLong → IsRefusedFor d text why → ⊥
+      too_long fault.XPathLong e r =
+          let same : length (printed d r.list) ≡ length (printed d h.list) = ap (λ l. length (printed d l)) (below.one_list text r.list h.list r.accepted h.accepted) in
+          let long : most_xpath < length (printed d r.list) = r.long in
+          let short : length (printed d h.list) ≤ most_xpath = h.short in omega arith
+      too_long _ e r = let x = e in cc
+
+  -- a selector has one line
+  pub one_line : (d : Dialect) (text : List ℕ) (a b : Answer) → IsCssLine d text a → IsCssLine d text b → a ≡ b
+  one_line d text a b (inl h) (inl g) =
+      h.line ∙ ap (λ (l : SelectorList). record { text = css_text l.items (printed d l); refused = false }) (below.one_list text h.list g.list h.accepted g.accepted) ∙ sym g.line
+  one_line d text a b (inl h) (inr g) = absurd (list_and_refusal d text a b h g)
+  one_line d text a b (inr h) (inl g) = absurd (list_and_refusal d text b a g h)
+  one_line d text a b (inr h) (inr g) =
+      h.line ∙ ap (λ why. record { text = reason_text (codes "css." ++ selector_word why); refused = true }) (one_reason below d text h.why g.why h.cause g.cause) ∙ sym g.line
+
+  -- and it has some line
+  pub some_line : (d : Dialect) (text : List ℕ) → (a : Answer) × IsCssLine d text a
+  some_line d text = elim (some_reading below d text) [
+    | inl list ↦ by_length list.0 list.1 (within_or_past (length (printed d list.0)) most_xpath)
+    | inr why ↦ (record { text = reason_text (codes "css." ++ selector_word why.0); refused = true }, inr (record { why = why.0; cause = why.1; line = refl }))
+  ]
+    where
+      by_length : (list : SelectorList) → Accepts text list → (length (printed d list) ≤ most_xpath) ⊎ (most_xpath < length (printed d list))
+          → (a : Answer) × IsCssLine d text a
+      by_length list h (inl short) = (record { text = css_text list.items (printed d list); refused = false }, inl (record { list = list; accepted = h; short = short; line = refl }))
+      by_length list h (inr long) = (
+        record { text = reason_text (codes "css." ++ selector_word fault.XPathLong); refused = true },
+        inr (record { why = fault.XPathLong; cause = record { list = list; accepted = h; long = long }; line = refl }),
+      )
+
+  -- a script that is refused as a whole has one line
+  same_refusal : (s : List ℕ) (a b : Answer) → IsScriptRefused s a → IsScriptRefused s b → a ≡ b
+  same_refusal s a b h k =
+      h.line ∙ ap (λ why. record { text = reason_text (codes "script." ++ script_word why); refused = true }) (below.one_script_fault s h.why k.why h.cause k.cause) ∙ sym k.line
+
+  -- what is made by the fields of a script is made by whichever fields it reads as
+  makes_for : (d : Dialect) (s : List ℕ) (fields other : List Field) → IsScript d s fields → IsScript d s other → (line : List ℕ → List ℕ → Answer) → MakesLines (IsValuesLine other) line → MakesLines (IsValuesLine fields) line
+  makes_for d s fields other h k line makes = subst (λ x. MakesLines (IsValuesLine x) line) (below.one_script d s other fields k h) makes
+
+  one_bulk_line : (n : ℕ) (a b : Answer) → IsBulkLine n a → IsBulkLine n b → a ≡ b
+  one_bulk_line n a b (inl h) (inl k) = same_refusal bulk_script a b h k
+  one_bulk_line n a b (inl h) (inr k) = absurd (below.read_or_refused Html bulk_script k.fields h.why k.reads h.cause)
+  one_bulk_line n a b (inr h) (inl k) = absurd (below.read_or_refused Html bulk_script h.fields k.why h.reads k.cause)
+  one_bulk_line n a b (inr h) (inr k) =
+      let same = below.one_script Html bulk_script k.fields h.fields k.reads h.reads in
+      one_page_line below h.fields (codes "bulk") (bulk_text n) a b h.line (subst (λ x. IsPageLine (IsValuesLine x) (codes "bulk") (bulk_text n) b) same k.line)
+
+  pub one_plan : OnePlan
+  one_plan (css d s) (alone a) (alone b) h k = ap alone (one_line d s a b h k)
+  one_plan (css d s) (alone a) (over m q) h k = absurd k
+  one_plan (css d s) (over l p) other h k = absurd h
+  one_plan (run d s names) (alone a) (alone b) h k = ap alone (same_refusal s a b h k)
+  one_plan (run d s names) (alone a) (over m q) h k = absurd (below.read_or_refused d s k.1.fields h.why k.1.reads h.cause)
+  one_plan (run d s names) (over l p) (alone b) h k = absurd (below.read_or_refused d s h.1.fields k.why h.1.reads k.cause)
+  one_plan (run d s names) (over l p) (over m q) h k =
+      let makes : MakesLines (IsValuesLine h.1.fields) m = makes_for d s h.1.fields k.1.fields h.1.reads k.1.reads m k.1.makes in
+      let same : l ≡ m = fun_ext (λ name. fun_ext (λ bytes. one_page_line below h.1.fields name bytes (l name bytes) (m name bytes) (h.1.makes name bytes) (makes name bytes))) in
+      ap₂ over same (h.0 ∙ sym k.0)
+  one_plan (bulk n) (alone a) (alone b) h k = ap alone (one_bulk_line n a b h k)
+  one_plan (bulk n) (alone a) (over m q) h k = absurd k
+  one_plan (bulk n) (over l p) other h k = absurd h
+
+  -- ---- what holds of the line that was made holds of the plan
+
+  pub of_css : (d : Dialect) (text : List ℕ) (made : Result Line NoMemory) (P : Plan → Type 0) → IfOk made (λ l. IsCssLine d text (answer_of l))
+      → ((a : Answer) → IfOk made (λ l. answer_of l ≡ a) → P (alone a)) → (plan : Plan) → IsPlan (css d text) plan → P plan
+  of_css d text made P line each (alone a) h = each a (IfOk-weaker made _ _ (λ l is_line. one_line d text (answer_of l) a is_line h) line)
+  of_css d text made P line each (over page names) h = absurd h
+
+  pub of_bulk : (n : ℕ) (made : Result Line NoMemory) (P : Plan → Type 0) → IfOk made (λ l. IsBulkLine n (answer_of l))
+      → ((a : Answer) → IfOk made (λ l. answer_of l ≡ a) → P (alone a)) → (plan : Plan) → IsPlan (bulk n) plan → P plan
+  of_bulk n made P line each (alone a) h = each a (IfOk-weaker made _ _ (λ l is_line. one_bulk_line n (answer_of l) a is_line h) line)
+  of_bulk n made P line each (over page names) h = absurd h
+
+  -- a script that reads as fields
+  pub of_script : (d : Dialect) (s : List ℕ) (names : List (List ℕ)) (fields : List Field) (P : Plan → Type 0) → IsScript d s fields
+      → ((line : List ℕ → List ℕ → Answer) → MakesLines (IsValuesLine fields) line → P (over line names)) → (plan : Plan) → IsPlan (run d s names) plan → P plan
+  of_script d s names fields P reads each (alone a) h = absurd (below.read_or_refused d s fields h.why reads h.cause)
+  of_script d s names fields P reads each (over line pages) h =
+      subst (λ x. P (over line x)) (sym h.0) (each line (makes_for d s fields h.1.fields reads h.1.reads line h.1.makes))
+
+  -- a script that is refused as a whole
+  pub of_refusal : (d : Dialect) (s : List ℕ) (names : List (List ℕ)) (why : ScriptFault) (made : Result Line NoMemory) (P : Plan → Type 0) → IsScriptFault s why
+      → IfOk made (λ l. IsScriptRefused s (answer_of l)) → ((a : Answer) → IfOk made (λ l. answer_of l ≡ a) → P (alone a)) → (plan : Plan) → IsPlan (run d s names) plan → P plan
+  of_refusal d s names why made P cause line each (alone a) h = each a (IfOk-weaker made _ _ (λ l is_line. same_refusal s (answer_of l) a is_line h) line)
+  of_refusal d s names why made P cause line each (over page pages) h = absurd (below.read_or_refused d s h.1.fields why h.1.reads cause)
+
+  -- the queries of a script that was read, whichever fields it reads as
+  pub ordered_for : (d : Dialect) (text : List ℕ) (fields : List Field) → IsScript d text fields → AllByRecursion IsOrdered fields → HasQueries d text
+  ordered_for d text fields reads ordered other also = subst (λ (x : List Field). AllByRecursion IsOrdered x) (below.one_script d text fields other reads also) ordered
+
+  -- a script that is refused as a whole has no queries
+  pub none_refused : (d : Dialect) (text : List ℕ) (why : ScriptFault) → IsScriptFault text why → HasQueries d text
+  none_refused d text why cause fields reads = absurd (below.read_or_refused d text fields why reads cause)

@@ -1,5 +1,5 @@
 -- Fields that are ready, and their values.
-use Rattle.std.proofs.Common.{◌≡◌, ℕ, zero, suc, ◌+◌, ◌<◌, ◌≤◌, List, [], ◌∷◌, ◌++◌, length, take, map, get_or, refl, subst, arith, add-one}
+use Rattle.std.proofs.Common.{◌≡◌, ℕ, zero, suc, ◌+◌, ◌<◌, List, [], ◌∷◌, ◌++◌, length, take, map, get_or, refl, subst, arith, add-one}
 use Rattle.doc_model.specs.Document.{Document}
 use Rattle.query_script.specs.declared.script.Field.{Field}
 use Rattle.query_chain.specs.Tasks.{Task, IsTask, outcome}

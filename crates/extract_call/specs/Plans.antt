@@ -1,5 +1,5 @@
 -- The plan of a command: the lines that a run of it is to write, by what is told of the pages.
-use Rattle.std.specs.Prelude.{◌≡◌, ℕ, ◌⊎◌, true, List, [], ◌∷◌, ◌++◌, Option, IfSome, codes}
+use Rattle.std.specs.Prelude.{◌≡◌, ℕ, ◌⊎◌, true, List, ◌++◌, Option, IfSome, codes}
 use Rattle.text_base.specs.declared.reasons.ScriptFault.{ScriptFault}
 use Rattle.text_base.specs.Reasons.{script_word}
 use Rattle.css_selectors.specs.declared.selector.Dialect.{Dialect}

@@ -9,6 +9,7 @@ ghost use Rattle.extract_call.specs.Answers.{answer_of};
 ghost use Rattle.extract_call.specs.CssLines.{IsCssLine, IsKept};
 ghost use Rattle.extract_call.specs.Plans.{IsScriptRefused};
 
+use crate::laws::laws_below;
 use css_parser::parse_selectors;
 use css_selectors::Dialect;
 use css_translate::translate;
@@ -60,6 +61,7 @@ pub fn css_answer(alloc: Global, dialect: Dialect, text: &str) -> Result<Line, N
     ensures line { IfOk result (λ line. IsCssLine dialect text.now (answer_of line)) }
     ensures meaning { IfOk result (λ line. line.refused ≡ false → (list : SelectorList) → Accepts text.now list → IsKept dialect list) }
 {
+    laws_below();
     match parse_selectors(alloc, text) {
         Ok(list) => match translate(alloc, dialect, &list) {
             Ok(xpath) => {

@@ -6,6 +6,7 @@ ghost use Rattle.extract_call.specs.Laws.{HasQueries};
 ghost use Rattle.extract_call.specs.Plans.{IsBulkLine};
 
 use crate::answers::{Line, script_answer};
+use crate::laws::laws_below;
 use crate::page_lines::{page_answer, prepare_fields};
 use css_selectors::Dialect;
 use query_script::parse_script;
@@ -101,6 +102,7 @@ pub fn bulk_answer(alloc: Global, n: u32) -> Result<Line, NoMemory>
     ensures line { IfOk result (λ line. IsBulkLine n (answer_of line)) }
     ensures queries { IsOk result → HasQueries Dialect.Html bulk_script }
 {
+    laws_below();
     match parse_script(alloc, Dialect::Html, BULK_SCRIPT) {
         Ok(script) => {
             let ready = prepare_fields(alloc, script.fields.as_slice())?;

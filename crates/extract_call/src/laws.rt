@@ -1,18 +1,39 @@
 //! Laws of the definitions that the contracts cite.
+ghost use Rattle.extract_call.specs.Below.{Below};
 ghost use Rattle.extract_call.specs.Laws.{BulkLaw, OnePlan, ReadingLaw, SomePlan, WordsLaw};
+
+use css_parser::one_list_or_fault;
+use html_reader::one_page_reading;
+use query_chain::{a_value, one_value};
+use query_script::read_or_refused;
+
+/// The laws of the crates below, from which those of this crate follow.
+pub fn laws_below()
+    ensures { Below }
+{
+    one_list_or_fault();
+    read_or_refused();
+    one_page_reading();
+    one_value();
+    a_value();
+}
 
 /// Each text is one selector list or is refused for one reason, and both only where the XPath of
 /// the list is too long.
 pub fn one_reading()
     ensures { ReadingLaw }
-{}
+{
+    laws_below();
+}
 
 /// A command has exactly one plan, so that its output is one list of lines: one at most, and one at least where each query of
 /// its script can be run, as `queries` of `extract` says.
 pub fn the_plan()
     ensures one { OnePlan }
     ensures some { SomePlan }
-{}
+{
+    laws_below();
+}
 
 /// The words have the form of a command exactly where they are the words of that command.
 #[tactic(auto, using(crate::proofs::Forms::words_read))]
@@ -21,7 +42,8 @@ pub fn words_of_commands()
 {}
 
 /// The script of the bulk page is not refused: it reads as fields.
-#[tactic(auto, using(crate::proofs::BulkFields::bulk_reads))]
 pub fn bulk_script_reads()
     ensures { BulkLaw }
-{}
+{
+    laws_below();
+}

@@ -13,6 +13,7 @@ ghost use Rattle.extract_call.specs.Runs.{pages_at, sink_at, Counted, Run};
 ghost use Rattle.extract_call.specs.Tasks.{AreTasks};
 
 use crate::answers::Line;
+use crate::laws::laws_below;
 use crate::page_lines::{long_answer, page_answer, prepare_fields};
 use crate::status::Status;
 use crate::writing::write_line;
@@ -74,6 +75,7 @@ fn write_page<P: Pages, W: Sink>(
     ensures write_fault { IsErrOf result Status.WriteFault → Rose (W.faults sink.old) (W.faults sink.new) }
     ensures other { (result ≢ Err Status.Done) × (result ≢ Err Status.Refused) × (result ≢ Err Status.Usage) }
 {
+    laws_below();
     match read_line(alloc, fields, ready, name, pages) {
         Ok(line) => match write_line(line, sink) {
             Ok(refused) => Ok(refused),

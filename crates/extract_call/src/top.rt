@@ -11,6 +11,7 @@ ghost use Rattle.extract_call.specs.Words.{Command, css, run, bulk, read, comman
 
 use crate::answers::{css_answer, script_answer};
 use crate::bulk::bulk_answer;
+use crate::laws::laws_below;
 use crate::pages::write_pages;
 use crate::status::Status;
 use crate::words::{Form, read};
@@ -29,6 +30,7 @@ fn write_css<W: Sink>(alloc: Global, dialect: Dialect, selector: &str, sink: &mu
     ensures meaning { (list : SelectorList) → Accepts selector.now list → result ≡ Status.Done → IsKept dialect list }
     ensures other { result ≢ Status.Usage }
 {
+    laws_below();
     write_alone(css_answer(alloc, dialect, selector), sink)
 }
 
@@ -42,6 +44,7 @@ fn write_bulk<W: Sink>(alloc: Global, n: u32, sink: &mut W) -> Status
     ensures queries { result ≢ Status.Memory → HasQueries Dialect.Html bulk_script }
     ensures other { result ≢ Status.Usage }
 {
+    laws_below();
     write_alone(bulk_answer(alloc, n), sink)
 }
 
@@ -63,6 +66,7 @@ fn write_run<P: Pages, W: Sink>(
     ensures queries { result ≢ Status.Memory → HasQueries dialect script.now }
     ensures other { result ≢ Status.Usage }
 {
+    laws_below();
     match parse_script(alloc, dialect, script) {
         Ok(read) => write_pages(alloc, &read.fields, names, pages, sink),
         Err(ScriptFault::Memory) => Status::Memory,

@@ -1,4 +1,4 @@
-use Rattle.std.proofs.Common.{◌≡◌, ◌∙◌, sym, ap, refl, arith, decimal}
+use Rattle.std.proofs.Common.{◌≡◌, sym, ap, arith, decimal}
 use Rattle.std.specs.Fmt.{digits}
 use Rattle.extract_call.proofs.bulk.digit.Goals as goal
 

@@ -1,4 +1,4 @@
-use Rattle.std.proofs.Common.{◌≡◌, List, subst, sym, ◌∙◌, ap, ap₂}
+use Rattle.std.proofs.Common.{List, subst, sym, ◌∙◌, ap, ap₂}
 use Rattle.std.specs.List.{list_any}
 use Rattle.query_script.specs.declared.script.FieldValue.{FieldValue}
 use Rattle.extract_call.specs.PageLines.{AreValues, is_refused}

@@ -1,4 +1,4 @@
-use Rattle.std.proofs.Common.{◌≡◌, ◌∙◌, sym, Ok}
+use Rattle.std.proofs.Common.{◌∙◌, sym}
 use Rattle.extract_call.specs.Answers.{answer_of}
 use Rattle.extract_call.proofs.PageAnswers.{line_of_whole, line_of_long, ok_at}
 use Rattle.extract_call.proofs.pages.read_line.Goals as goal

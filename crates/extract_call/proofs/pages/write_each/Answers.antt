@@ -1,4 +1,4 @@
-use Rattle.std.proofs.Common.{◌≡◌, ℕ, arith, length, string_bytes, map, ◌∙◌, ap}
+use Rattle.std.proofs.Common.{◌≡◌, arith, length, string_bytes, map, ◌∙◌, ap}
 use Rattle.std.specs.Prelude.{◌||◌}
 use Rattle.extract_call.specs.Plans.{over}
 use Rattle.extract_call.proofs.Complete.{run_of, unfaulted}

@@ -4,8 +4,8 @@ use Rattle.extract_call.proofs.pages.write_page.Goals as goal
 
 pub returns-in-Ok-write_line-clause-ok : goal.returns-in-Ok-write_line-clause-ok
 returns-in-Ok-write_line-clause-ok g c = λ line makes.
-    line_taken c.args.fields.now line makes (g.P.Pages.told c.args.pages.now) c.args.name.now (g.W.Sink.taken c.args.sink.now) _ _ _ c.in-Ok.ensures.ok c.in-Ok-write_line.ensures.ok.0 c.in-Ok-write_line.ensures.ok.1
+    line_taken c.laws_below.ensures c.args.fields.now line makes (g.P.Pages.told c.args.pages.now) c.args.name.now (g.W.Sink.taken c.args.sink.now) _ _ _ c.in-Ok.ensures.ok c.in-Ok-write_line.ensures.ok.0 c.in-Ok-write_line.ensures.ok.1
 
 pub returns-in-Err-write_line-clause-err : goal.returns-in-Err-write_line-clause-err
 returns-in-Err-write_line-clause-err g c = λ line makes.
-    inr (line_part c.args.fields.now line makes (g.P.Pages.told c.args.pages.now) c.args.name.now (g.W.Sink.taken c.args.sink.now) _ _ c.in-Ok.ensures.ok c.in-Err-write_line.ensures.err)
+    inr (line_part c.laws_below.ensures c.args.fields.now line makes (g.P.Pages.told c.args.pages.now) c.args.name.now (g.W.Sink.taken c.args.sink.now) _ _ c.in-Ok.ensures.ok c.in-Err-write_line.ensures.err)

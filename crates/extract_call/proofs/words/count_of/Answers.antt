@@ -1,7 +1,4 @@
-use Rattle.std.proofs.Common.{◌≡◌, ◌<◌, ◌≤◌, length, take, arith, sym, ◌∙◌, get_or, ap}
-use Rattle.std.specs.Prelude.{true, false}
-use Rattle.std.specs.List.{list_all}
-use Rattle.extract_call.specs.Words.{is_digit, digits_value}
+use Rattle.std.proofs.Common.{◌≡◌, take, arith, sym, ◌∙◌}
 use Rattle.extract_call.proofs.Counts.{count_empty, count_long, count_other, count_low, count_high, count_read, take_end}
 use Rattle.extract_call.proofs.words.count_of.Goals as goal
 

@@ -1,4 +1,4 @@
-use Rattle.std.proofs.Common.{◌≡◌, ◌∙◌, sym, Err, arith, refl}
+use Rattle.std.proofs.Common.{◌≡◌, ◌∙◌, arith, refl}
 use Rattle.extract_call.specs.Answers.{answer_of}
 use Rattle.extract_call.specs.Plans.{alone}
 use Rattle.extract_call.proofs.Complete.{nothing_run, part_run, whole_run, untouched}

@@ -1,0 +1,26 @@
+-- For the contracts of private functions alone: what the laws of the crates below say.
+use Rattle.std.specs.Prelude.{List, ℕ}
+use Rattle.css_parser.specs.Laws as selectors
+use Rattle.html_reader.specs.PageLaws as pages
+use Rattle.query_script.specs.Laws as scripts
+use Rattle.query_chain.specs.Laws as fields
+
+pub record Below : Type 0 where
+  -- a text is one list of selectors or has one fault
+  pub one_list : selectors.HasOneReading
+  pub one_list_fault : selectors.HasOneFault
+  pub list_or_fault : selectors.IsListOrFault
+  pub some_list : selectors.HasListOrFault
+  -- a text reads as one list of fields or is refused as a whole
+  pub one_script : scripts.HasOneReading
+  pub one_script_fault : scripts.HasOneFault
+  pub read_or_refused : scripts.IsReadOrRefused
+  pub some_script : scripts.HasReading
+  -- a page builds one document or has one fault
+  pub one_document : pages.OnePageDocument
+  pub one_page_fault : pages.OnePageFault
+  pub page_never_both : pages.NeverBothOfPage
+  pub some_page : (page : List ℕ) → pages.PageAnswer page
+  -- an ordered field has one value
+  pub one_value : fields.OneValue
+  pub some_value : fields.AValue
