@@ -1,12 +1,12 @@
 //! The line of a page, from its bytes.
-ghost use Rattle.std.specs.Prelude.{◌≡◌, ◌≢◌, ◌≤◌, map, length, IsOk, IfOk, true};
+ghost use Rattle.std.specs.Prelude.{◌≡◌, ◌≢◌, ◌≤◌, List, length, IsOk, IfOk, true};
 ghost use Rattle.std.specs.List.{AllByRecursion, list_any};
+ghost use Rattle.query_script.specs.declared.script.Field.{Field};
 ghost use Rattle.query_script.specs.Ordered.{IsOrdered};
-ghost use Rattle.query_chain.specs.Tasks.{outcome};
 ghost use Rattle.json_lines.specs.Pages.{refused_text};
 ghost use Rattle.extract_call.specs.Answers.{answer_of};
 ghost use Rattle.extract_call.specs.OnePage.{IsTextLine};
-ghost use Rattle.extract_call.specs.PageLines.{most_page, too_long, is_refused, IsPageLine, IsValuesLine};
+ghost use Rattle.extract_call.specs.PageLines.{most_page, too_long, is_refused, AreValues, IsPageLine, IsValuesLine};
 ghost use Rattle.extract_call.specs.Tasks.{AreTasks};
 
 use crate::answers::Line;
@@ -69,7 +69,7 @@ fn values_of<S: Axes>(
     source: &S,
     ready: &[Ready],
 ) -> Result<Seq<FieldValue>, NoMemory>
-    ensures { IfOk result (λ values. values ≡ map (outcome (S.document source.now) 0) ready.now) }
+    ensures { IfOk result (λ values. (fields : List Field) → AreTasks fields ready.now → AreValues (S.document source.now) fields values) }
 {
     let mut values = Vec::new(alloc);
     for one in ready {

@@ -1,22 +1,16 @@
-use Rattle.std.proofs.Common.{List, subst, sym, ◌∙◌, ap, ap₂}
+use Rattle.std.proofs.Common.{List, ◌∙◌, ap, ap₂}
 use Rattle.std.specs.List.{list_any}
 use Rattle.query_script.specs.declared.script.FieldValue.{FieldValue}
-use Rattle.extract_call.specs.PageLines.{AreValues, is_refused}
-use Rattle.extract_call.proofs.Tasks.{are_values}
+use Rattle.extract_call.specs.PageLines.{is_refused}
 use Rattle.extract_call.proofs.ValueLemmas.{as_many}
 use Rattle.extract_call.proofs.page_lines.document_answer.Goals as goal
 
 pub page_line-requires : goal.page_line-requires
-page_line-requires g c =
-    let doc = g.S.Tree.document c.args.source.now in
-    as_many doc c.args.fields.now c.in_ok-values.values
-    (subst (λ (x : List FieldValue). AreValues doc c.args.fields.now x) (sym c.in_ok-values.ensures) (are_values doc c.args.fields.now c.args.ready.now c.requires))
+page_line-requires g c = as_many (g.S.Tree.document c.args.source.now) c.args.fields.now c.in_ok-values.values (c.in_ok-values.ensures c.args.fields.now c.requires)
 
 pub returns : goal.returns
-returns g c =
-    let doc = g.S.Tree.document c.args.source.now in
-    record {
-      values = c.in_ok-values.values;
-      are = subst (λ (x : List FieldValue). AreValues doc c.args.fields.now x) (sym c.in_ok-values.ensures) (are_values doc c.args.fields.now c.args.ready.now c.requires);
-      line = ap₂ (λ t r. record { text = t; refused = r }) c.in_ok-text.ensures.text (c.holds_refusal-refused.ensures ∙ ap (λ (vs : List FieldValue). list_any is_refused vs) c.as_slice.ensures);
-    }
+returns g c = record {
+  values = c.in_ok-values.values;
+  are = c.in_ok-values.ensures c.args.fields.now c.requires;
+  line = ap₂ (λ t r. record { text = t; refused = r }) c.in_ok-text.ensures.text (c.holds_refusal-refused.ensures ∙ ap (λ (vs : List FieldValue). list_any is_refused vs) c.as_slice.ensures);
+}
