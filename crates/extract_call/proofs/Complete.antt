@@ -1,5 +1,5 @@
 -- How a run without faults ends.
-use Rattle.std.proofs.Common.{◌≡◌, refl, ℕ, ◌<◌, List, [], Option, Some, None, length, sym, ◌∙◌, ap, arith, inl, inr, append-nil, subst}
+use Rattle.std.proofs.Common.{◌≡◌, ◌≢◌, ◌≤◌, refl, ℕ, ◌<◌, List, [], Option, Some, None, length, sym, ◌∙◌, ap, arith, inl, inr, append-nil, subst}
 use Rattle.std.specs.Prelude.{IfSome, Bool, true, false, ◌||◌, ◌⊎◌, slice_index_or}
 use Rattle.io_edges.specs.Counts.{Rose, Grows}
 use Rattle.io_edges.specs.Pages.{Lacks}
@@ -233,4 +233,16 @@ unfaulted pages pages' sink sink' status told same_pages same_sink other = recor
   sink_faults = omega (arith, same_sink);
   pages_uncounted = λ z. same_pages;
   sink_uncounted = λ z. same_sink;
+}
+
+-- after a page was read, its line was written, or not
+pub counted_then : {P : Type 0} (pages pages' : PagesAt P) (sink sink' : SinkAt) (status : Status) → Counted pages pages' sink sink Done → sink.faults ≤ sink'.faults
+    → (status ≢ WriteFault → sink'.faults ≡ sink.faults) → (status ≡ WriteFault → Rose sink.faults sink'.faults) → Counted pages pages' sink sink' status
+counted_then pages pages' sink sink' status read never_falls uncounted write_fault = record {
+  told = read.told;
+  write_fault = write_fault;
+  page_faults = read.page_faults;
+  sink_faults = never_falls;
+  pages_uncounted = λ z. read.pages_uncounted (λ e. cc);
+  sink_uncounted = uncounted;
 }

@@ -1,5 +1,5 @@
 -- For the contracts of private functions alone: one page of a run.
-use Rattle.std.specs.Prelude.{◌≡◌, ◌⊎◌, ℕ, Bool, true, List, Option, Some, IfSome}
+use Rattle.std.specs.Prelude.{◌≡◌, ◌⊎◌, ℕ, Bool, true, List, Option, Some, IfSome, Result, Ok, Err}
 use Rattle.text_base.specs.declared.reasons.PageFault.{PageFault}
 use Rattle.doc_model.specs.Document.{Document}
 use Rattle.html_reader.specs.Pages.{BuildsPage, IsPageFault}
@@ -7,6 +7,8 @@ use Rattle.json_lines.specs.Pages.{refused_text}
 use Rattle.io_edges.specs.Pages.{page}
 use Rattle.io_edges.specs.Sink.{grown, TakesPart}
 use Rattle.extract_call.specs.Answers.{Answer, line_bytes}
+use Rattle.extract_call.specs.declared.status.Status.{Status}
+use Rattle.extract_call.specs.declared.status.Status.TheVariants.{Done}
 
 -- the text has a fault, and the line has it
 pub record IsFaultLine (name text : List ℕ) (a : Answer) : Type 0 where
@@ -31,3 +33,8 @@ TakesLine line told name taken taken' refused = IfSome told (λ pages. (bytes : 
 -- where the pages are told, this one is there and a part of its line was taken
 abbrev pub TakesLinePart : (List ℕ → List ℕ → Answer) → Option (List (List ℕ × List ℕ)) → List ℕ → Option (List ℕ) → Option (List ℕ) → Type 0
 TakesLinePart line told name taken taken' = IfSome told (λ pages. (bytes : List ℕ) × ((page pages name ≡ Some bytes) × TakesPart taken (line_bytes (line name bytes)) taken'))
+
+-- the status that one page of a run stands for: a page that was written does not end the run
+abbrev pub status_of : {A : Type 0} → Result A Status → Status
+status_of (Ok x) = Done
+status_of (Err status) = status

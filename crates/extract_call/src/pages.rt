@@ -6,10 +6,10 @@ ghost use Rattle.io_edges.specs.Pages.{page, Lacks};
 ghost use Rattle.io_edges.specs.Sink.{grown, TakesPart};
 ghost use Rattle.query_script.specs.Ordered.{IsOrdered};
 ghost use Rattle.extract_call.specs.Answers.{Answer, answer_of, line_bytes};
-ghost use Rattle.extract_call.specs.OnePage.{TakesLine, TakesLinePart};
+ghost use Rattle.extract_call.specs.OnePage.{TakesLine, TakesLinePart, status_of};
 ghost use Rattle.extract_call.specs.PageLines.{IsPageLine, IsValuesLine, MakesLines};
 ghost use Rattle.extract_call.specs.Plans.{over};
-ghost use Rattle.extract_call.specs.Runs.{pages_at, sink_at, Counted, Run};
+ghost use Rattle.extract_call.specs.Runs.{SinkAt, pages_at, sink_at, Counted, Run};
 ghost use Rattle.extract_call.specs.Tasks.{AreTasks};
 
 use crate::answers::Line;
@@ -32,10 +32,9 @@ fn read_line<P: Pages>(
     pages: &mut P,
 ) -> Result<Line, Status>
     requires { AreTasks fields.now ready.now }
-    ensures told { P.told pages.new ≡ P.told pages.old }
     ensures begun { Grows (P.begun pages.old) 1 (P.begun pages.new) }
-    ensures never_falls { P.faults pages.old ≤ P.faults pages.new }
-    ensures uncounted { ¬ IsErrOf result Status.ReadFault → P.faults pages.new ≡ P.faults pages.old }
+    ensures counts { (sink : SinkAt) → Counted (pages_at pages.old (P.told pages.old) (P.begun pages.old) (P.faults pages.old))
+        (pages_at pages.new (P.told pages.new) (P.begun pages.new) (P.faults pages.new)) sink sink (status_of result) }
     ensures ok { IfOk result (λ line. IfSome (P.told pages.old) (λ told. (bytes : List ℕ) × ((page told name.now ≡ Some bytes) × IsPageLine (IsValuesLine fields.now) name.now bytes (answer_of line)))) }
     ensures read_fault { IsErrOf result Status.ReadFault → Rose (P.faults pages.old) (P.faults pages.new) ⊎ Lacks (P.told pages.old) name.now }
     ensures other { (result ≢ Err Status.Done) × (result ≢ Err Status.Refused) × (result ≢ Err Status.Usage) × (result ≢ Err Status.WriteFault) }
@@ -62,17 +61,14 @@ fn write_page<P: Pages, W: Sink>(
     sink: &mut W,
 ) -> Result<bool, Status>
     requires { AreTasks fields.now ready.now }
-    ensures told { P.told pages.new ≡ P.told pages.old }
     ensures begun { Grows (P.begun pages.old) 1 (P.begun pages.new) }
-    ensures page_faults { P.faults pages.old ≤ P.faults pages.new }
-    ensures sink_faults { W.faults sink.old ≤ W.faults sink.new }
-    ensures pages_uncounted { ¬ IsErrOf result Status.ReadFault → P.faults pages.new ≡ P.faults pages.old }
-    ensures sink_uncounted { ¬ IsErrOf result Status.WriteFault → W.faults sink.new ≡ W.faults sink.old }
+    ensures counts { Counted (pages_at pages.old (P.told pages.old) (P.begun pages.old) (P.faults pages.old))
+        (pages_at pages.new (P.told pages.new) (P.begun pages.new) (P.faults pages.new))
+        (sink_at (W.taken sink.old) (W.faults sink.old)) (sink_at (W.taken sink.new) (W.faults sink.new)) (status_of result) }
     ensures ok { IfOk result (λ r. (line : List ℕ → List ℕ → Answer) → MakesLines (IsValuesLine fields.now) line → TakesLine line (P.told pages.old) name.now (W.taken sink.old) (W.taken sink.new) r) }
     ensures err { OnErr result ((line : List ℕ → List ℕ → Answer) → MakesLines (IsValuesLine fields.now) line →
         (W.taken sink.new ≡ W.taken sink.old) ⊎ TakesLinePart line (P.told pages.old) name.now (W.taken sink.old) (W.taken sink.new)) }
     ensures read_fault { IsErrOf result Status.ReadFault → (Rose (P.faults pages.old) (P.faults pages.new) ⊎ Lacks (P.told pages.old) name.now) × (W.taken sink.new ≡ W.taken sink.old) }
-    ensures write_fault { IsErrOf result Status.WriteFault → Rose (W.faults sink.old) (W.faults sink.new) }
     ensures other { (result ≢ Err Status.Done) × (result ≢ Err Status.Refused) × (result ≢ Err Status.Usage) }
 {
     laws_below();

@@ -12,10 +12,10 @@ loop-name-preserved g c =
     let or : c.if-refused.refused ≡ (c.loop-name.refused || c.in-Ok.one) = elim c.if-refused.branch [ then-refused w ↦ cc | else-refused w ↦ cc ] in
     let ok = rw (c.loop-name.invariant.told, c.as_str.ensures.value) at c.in-Ok.ensures.ok in
     record {
-      told = c.in-Ok.ensures.told ∙ c.loop-name.invariant.told;
+      told = c.in-Ok.ensures.counts.told ∙ c.loop-name.invariant.told;
       begun = omega (arith, c.loop-name.invariant.begun, c.in-Ok.ensures.begun);
-      pages_uncounted = c.in-Ok.ensures.pages_uncounted (λ z. cc) ∙ c.loop-name.invariant.pages_uncounted;
-      sink_uncounted = c.in-Ok.ensures.sink_uncounted (λ z. cc) ∙ c.loop-name.invariant.sink_uncounted;
+      pages_uncounted = c.in-Ok.ensures.counts.pages_uncounted (λ z. cc) ∙ c.loop-name.invariant.pages_uncounted;
+      sink_uncounted = c.in-Ok.ensures.counts.sink_uncounted (λ z. cc) ∙ c.loop-name.invariant.sink_uncounted;
       idle = λ z. absurd (omega arith);
       written = λ line makes. rw or (next_page line (g.P.Pages.told c.args.pages.now) (map string_bytes c.args.names.now) c.loop-name.name-index _ _ _ c.loop-name.refused c.in-Ok.one (string_bytes c.name-item.result) (c.loop-name.invariant.written line makes) (place_within c.args.names.now c.loop-name.name-index c.loop-name-test.true) here (ok line makes));
     }
@@ -29,17 +29,17 @@ returns-in-Err-clause-run g c = λ line makes.
     run_of (over line (map string_bytes c.args.names.now)) _ _ _ _ _
     (ended_at line (g.P.Pages.told c.args.pages.now) (map string_bytes c.args.names.now) c.loop-name.name-index _ _ _ c.loop-name.refused (string_bytes c.name-item.result)
     _ _ _ _ _ _ _ _ _ _ (c.loop-name.invariant.written line makes) within here c.loop-name.invariant.begun c.in-Err.ensures.begun (omega (arith, c.loop-name.invariant.pages_uncounted)) (omega (arith, c.loop-name.invariant.sink_uncounted)) (part line makes)
-    (λ e. cause (cc)) (λ e. c.in-Err.ensures.write_fault (cc)) (λ e. c.in-Err.ensures.other.0 (cc)) (λ e. c.in-Err.ensures.other.1 (cc)) (λ e. c.in-Err.ensures.other.2 (cc)))
+    (λ e. cause (cc)) c.in-Err.ensures.counts.write_fault (λ e. c.in-Err.ensures.other.0 (cc)) (λ e. c.in-Err.ensures.other.1 (cc)) (λ e. c.in-Err.ensures.other.2 (cc)))
     (λ none. absurd (let z : length (map string_bytes c.args.names.now) ≡ 0 = ap length none in omega (arith, within)))
 
 pub returns-in-Err-clause-counts : goal.returns-in-Err-clause-counts
 returns-in-Err-clause-counts g c = record {
-  told = c.in-Err.ensures.told ∙ c.loop-name.invariant.told;
-  write_fault = λ z. rose_from _ _ _ (omega (arith, c.loop-name.invariant.sink_uncounted)) (c.in-Err.ensures.write_fault (cc));
-  page_faults = omega (arith, c.loop-name.invariant.pages_uncounted, c.in-Err.ensures.page_faults);
-  sink_faults = omega (arith, c.loop-name.invariant.sink_uncounted, c.in-Err.ensures.sink_faults);
-  pages_uncounted = λ z. c.in-Err.ensures.pages_uncounted (λ e. z (cc)) ∙ c.loop-name.invariant.pages_uncounted;
-  sink_uncounted = λ z. c.in-Err.ensures.sink_uncounted (λ e. z (cc)) ∙ c.loop-name.invariant.sink_uncounted;
+  told = c.in-Err.ensures.counts.told ∙ c.loop-name.invariant.told;
+  write_fault = λ z. rose_from _ _ _ (omega (arith, c.loop-name.invariant.sink_uncounted)) (c.in-Err.ensures.counts.write_fault z);
+  page_faults = omega (arith, c.loop-name.invariant.pages_uncounted, c.in-Err.ensures.counts.page_faults);
+  sink_faults = omega (arith, c.loop-name.invariant.sink_uncounted, c.in-Err.ensures.counts.sink_faults);
+  pages_uncounted = λ z. c.in-Err.ensures.counts.pages_uncounted z ∙ c.loop-name.invariant.pages_uncounted;
+  sink_uncounted = λ z. c.in-Err.ensures.counts.sink_uncounted z ∙ c.loop-name.invariant.sink_uncounted;
 }
 
 pub returns-then-refused-2-clause-run : goal.returns-then-refused-2-clause-run
