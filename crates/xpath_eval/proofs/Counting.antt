@@ -18,7 +18,7 @@ use Rattle.xpath_parser.specs.declared.expression.Expr.{Expr}
 use Rattle.xpath_parser.specs.declared.expression.Expr.TheVariants.{Path, Number}
 use Rattle.xpath_parser.specs.declared.expression.Start.TheVariants.{Here}
 use Rattle.xpath_parser.specs.declared.expression.Step.{Step, out-Step}
-use Rattle.xpath_parser.specs.Conversions.{rows_of, is_any}
+use Rattle.xpath_parser.specs.Conversions.{rows_of, is_any, truth_of}
 use Rattle.xpath_parser.specs.Functions.{Context, called}
 use Rattle.xpath_parser.specs.Denote.{Meaning, denote, walk_of, rows_in, kept, kept_from, keeps}
 use Rattle.xpath_parser.proofs.Equations.{at_path, at_here, at_step}
@@ -65,15 +65,15 @@ module _ (doc : Document) where
       ∙ ap (λ v. Num (whole (pos (length (rows_of v))))) (lone_path s c)
       ∙ ap (λ k. Num (whole (pos k))) (lone_rows s c.row l.plain)
 
-  any_length : (xs : List ℕ) → is_any xs ≡ nat_lt 0 (length xs)
+  pub any_length : (xs : List ℕ) → is_any xs ≡ nat_lt 0 (length xs)
   any_length [] = refl
   any_length (x ∷ xs) = sym (lt-ltb 0 (suc (length xs)) (omega arith))
 
   -- whether a step gives a row
-  pub held : (e : Expr) (s : Step) (c : Context) (at : ℕ) → IsLonePath e s → nat_lt 0 (length (axis_list doc c.row (out-Step s).axis (out-Step s).test)) ≡ keeps at (denote doc e c)
-  held e s c at l =
+  pub held : (e : Expr) (s : Step) (c : Context) → IsLonePath e s → nat_lt 0 (length (axis_list doc c.row (out-Step s).axis (out-Step s).test)) ≡ truth_of (denote doc e c)
+  held e s c l =
       ap (nat_lt 0) (sym (lone_rows s c.row l.plain)) ∙ sym (any_length (rows_in doc (c.row ∷ []) (walk_of doc s)))
-      ∙ ap (keeps at) (sym (lone_path s c)) ∙ ap (λ v. keeps at (denote doc v c)) (sym l.path)
+      ∙ ap truth_of (sym (lone_path s c)) ∙ ap (λ v. truth_of (denote doc v c)) (sym l.path)
 
 -- ---- a number as a predicate
 

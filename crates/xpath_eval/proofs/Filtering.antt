@@ -17,7 +17,7 @@ use Rattle.xpath_parser.specs.Denote.{denote, walk_of, rows_in, kept, kept_from,
 use Rattle.xpath_parser.proofs.Equations.{at_step}
 use Rattle.xpath_eval.specs.Tests.{IsTest, AreTests, is_number}
 
-keeps_truth : (at : ℕ) (v : Value) → is_number v ≡ false → keeps at v ≡ truth_of v
+pub keeps_truth : (at : ℕ) (v : Value) → is_number v ≡ false → keeps at v ≡ truth_of v
 keeps_truth at (Nodes xs) h = refl
 keeps_truth at (Num n) h = cc
 keeps_truth at (Str s) h = refl
@@ -94,7 +94,7 @@ module _ (doc : Document) where
       ∙ ap (λ r. cond (passes_test p x) (x ∷ r) r) (test_filter p size (suc at) xs t)
 
   -- tests keep the rows that pass all of them
-  tests_filter : (ps : List Expr) (xs : List ℕ) → AreTests ps → kept (map (denote doc) ps) xs ≡ filter (passes_tests ps) xs
+  pub tests_filter : (ps : List Expr) (xs : List ℕ) → AreTests ps → kept (map (denote doc) ps) xs ≡ filter (passes_tests ps) xs
   tests_filter [] xs t = filter_all xs
   tests_filter (p ∷ ps) xs t =
       ap (kept (map (denote doc) ps)) (test_filter p (length xs) 1 xs (All-head IsTest p ps t))

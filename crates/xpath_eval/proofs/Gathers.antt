@@ -1,5 +1,5 @@
 -- The rows of several lists together, and the order of the rows that an expression gives.
-use Rattle.std.proofs.Common.{◌≡◌, refl, sym, ◌∙◌, ap, ℕ, ◌<◌, ◌≤◌, Bool, true, false, ◌||◌, List, [], ◌∷◌, ◌++◌, length, take, arith, inl, inr}
+use Rattle.std.proofs.Common.{◌≡◌, refl, sym, ◌∙◌, ap, subst, ℕ, ◌<◌, ◌≤◌, Bool, true, false, ◌||◌, List, [], ◌∷◌, ◌++◌, length, take, arith, inl, inr}
 use Rattle.std.specs.List.{list_any}
 use Rattle.std.proofs.lemmas.List.Folds.{list_any-append}
 use Rattle.std.proofs.lemmas.List.{take_all}
@@ -16,7 +16,7 @@ use Rattle.xpath_parser.specs.Conversions.{rows_of}
 use Rattle.xpath_parser.specs.Functions.{Context, called}
 use Rattle.xpath_parser.specs.Denote.{rows_in, path, applied, joined, Walk}
 use Rattle.xpath_eval.specs.Rows.{AllBelow, AreRows}
-use Rattle.xpath_eval.proofs.Lists.{member_of_all, all_by_members, or_cases}
+use Rattle.xpath_eval.proofs.Lists.{member_of_all, all_by_members, or_cases, run_below}
 
 -- a list has the rows of so many lists, all of them below n
 pub record Gathered {A : Type 0} (n : ℕ) (xs : List A) (list_at : A → List ℕ) (found : List ℕ) : Type 0 where
@@ -60,6 +60,10 @@ module _ (doc : Document) where
   pub path_run : (xs : List ℕ) (ws : List Walk) → AreRows doc xs → AreRows doc (path doc xs ws)
   path_run xs [] r = r
   path_run xs (w ∷ ws) r = path_run (rows_in doc xs w) ws (rows_in_run xs w)
+
+  -- whatever the list of them is called
+  pub path_below : (xs : List ℕ) (ws : List Walk) (found : List ℕ) → found ≡ path doc xs ws → AreRows doc xs → AllBelow (length doc) found
+  path_below xs ws found is r = subst (AllBelow (length doc)) (sym is) (run_below 0 (length doc) (path doc xs ws) (path_run xs ws r))
 
   no_rows : AreRows doc []
   no_rows = omega arith

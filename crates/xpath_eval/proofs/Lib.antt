@@ -3,6 +3,7 @@ pub mod Counting
 pub mod Covering
 pub mod Deep
 pub mod Filtering
+pub mod Found
 pub mod Gathers
 pub mod Kept
 pub mod Lists

@@ -5,7 +5,7 @@ use Rattle.std.specs.List.{All, dedup, dedup_from}
 use Rattle.std.specs.List.Sorted.{IsStrictlyIncreasing}
 use Rattle.std.proofs.lemmas.Bool.Decides.{nat_tests}
 use Rattle.std.proofs.lemmas.List.Folds.{list_any_at}
-use Rattle.std.proofs.lemmas.List.{reverse-append, take_more}
+use Rattle.std.proofs.lemmas.List.{reverse-append, take_more, get_or-take, length-take-le}
 use Rattle.std.proofs.Math.Seq.{drop-cons}
 use Rattle.std.proofs.lemmas.List.Elements.{All-nil, All-cons, All-head, All-tail, All-more}
 use Rattle.doc_model.specs.RowLists.{Run, has}
@@ -116,6 +116,12 @@ run_few n xs r = let h = run_length 0 n xs r in omega (arith, h)
 -- what is left from a place on
 pub drop_at : {A : Type 0} (xs : List A) (i : ℕ) (x : A) → x ≡ get_or xs i x → i < length xs → drop i xs ≡ x ∷ drop (i + 1) xs
 drop_at xs i x is h = let next : suc i ≡ i + 1 = omega arith in drop-cons xs i x h ∙ ap (λ v. v ∷ drop (suc i) xs) (sym is) ∙ ap (λ k. x ∷ drop k xs) next
+
+-- the same of the first n
+pub drop_taken : {A : Type 0} (xs : List A) (n i : ℕ) (x : A) → x ≡ get_or xs i x → i < n → n ≤ length xs → drop i (take n xs) ≡ x ∷ drop (i + 1) (take n xs)
+drop_taken xs n i x is less h =
+    let long : length (take n xs) ≡ n = length-take-le n xs h in
+    drop_at (take n xs) i x (is ∙ sym (get_or-take n xs i x less)) (omega (arith, less, long))
 
 pub take_at : {A : Type 0} (xs : List A) (i : ℕ) (x : A) → x ≡ get_or xs i x → i < length xs → take (i + 1) xs ≡ take i xs ++ x ∷ []
 take_at xs i x is h = take_more xs i x h ∙ ap (λ v. take i xs ++ v ∷ []) (sym is)

@@ -1,5 +1,5 @@
 -- Expressions that are one step.
-use Rattle.std.specs.Prelude.{◌≡◌, List, [], ◌∷◌, pos}
+use Rattle.std.specs.Prelude.{◌≡◌, List, [], ◌∷◌, ◌++◌, pos}
 use Rattle.doc_model.specs.declared.Axis.TheVariants as axis
 use Rattle.doc_model.specs.declared.NodeTest.TheVariants as test
 use Rattle.xpath_parser.specs.declared.expression.Expr.{Expr}
@@ -37,3 +37,12 @@ pub record IsAllBelow (s : Step) : Type 0 where
 pub record IsTestedChild (s : Step) : Type 0 where
   pub axis : (out-Step s).axis ≡ axis.Child
   pub tests : AreTests (out-Step s).predicates
+
+-- the last two steps are such steps
+pub record EndsBelow (ss : List Step) : Type 0 where
+  pub before : List Step
+  pub first : Step
+  pub second : Step
+  pub all : ss ≡ before ++ first ∷ second ∷ []
+  pub below : IsAllBelow first
+  pub tested : IsTestedChild second

@@ -1,6 +1,6 @@
 -- Predicates that ask about the row alone.
-use Rattle.std.specs.Prelude.{◌≡◌, Bool, true, false, List, [], ◌∷◌, ◌++◌}
-use Rattle.std.specs.List.{All}
+use Rattle.std.specs.Prelude.{◌≡◌, ℕ, Bool, true, false, List, [], ◌∷◌, ◌++◌}
+use Rattle.std.specs.List.{All, list_all}
 use Rattle.doc_model.specs.Document.{Document}
 use Rattle.xpath_values.specs.declared.value.Value.{Value}
 use Rattle.xpath_values.specs.declared.value.Value.TheVariants.{Nodes, Num, Str, Bool as Truth}
@@ -11,6 +11,7 @@ use Rattle.xpath_parser.specs.declared.expression.Func.{Func}
 use Rattle.xpath_parser.specs.declared.expression.Func.TheVariants as f
 use Rattle.xpath_parser.specs.declared.expression.Infix.{Infix}
 use Rattle.xpath_parser.specs.declared.expression.Infix.TheVariants as op
+use Rattle.xpath_parser.specs.Conversions.{truth_of}
 use Rattle.xpath_parser.specs.Functions.{Context}
 use Rattle.xpath_parser.specs.Denote.{denote, start_of}
 
@@ -45,6 +46,10 @@ pub record IsTest (e : Expr) : Type 0 where
 
 abbrev pub AreTests : List Expr → Type 0
 AreTests es = All IsTest es
+
+-- the expressions are true at the row, at position 1 of 1
+abbrev pub passes_all : Document → List Expr → ℕ → Bool
+passes_all doc es y = list_all (λ e. truth_of (denote doc e (record { row = y; position = 1; size = 1 }))) es
 
 -- the functions that ask for the position or the size
 abbrev pub is_placed : Func → Bool

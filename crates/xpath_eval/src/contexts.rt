@@ -126,6 +126,11 @@ pub fn covering<T: Tree>(
     fewer(alloc, tree, axis, rows)
 }
 
+/// Whether there may be rows that can be left out on an axis.
+pub fn may_cover(axis: Axis, rows: &[u32]) -> bool {
+    rows.len() > 1 && can_cover(axis)
+}
+
 /// Whether rows can be left out on an axis.
 pub fn can_cover(axis: Axis) -> bool {
     matches!(

@@ -1,5 +1,5 @@
 //! The value of an expression at a place. Only brackets nest, so only through them a function here leads to itself.
-ghost use Rattle.std.specs.Prelude.{◌≡◌, ◌<◌, length, map, IfOk};
+ghost use Rattle.std.specs.Prelude.{◌≡◌, ◌<◌, ◌≤◌, length, map, take, IfOk};
 ghost use Rattle.std.specs.List.{list_any, list_all, All};
 ghost use Rattle.doc_model.specs.Axes.{axis_list};
 ghost use Rattle.doc_model.specs.declared.Axis.TheVariants as axis;
@@ -21,11 +21,12 @@ use crate::place::Place;
 use crate::predicates::{filter, filtered};
 use crate::step_rows::step_rows;
 use crate::tests_of_rows::are_tests;
+use crate::truths::{all, any};
 use doc_model::{Axes, Axis};
 use std::alloc::Global;
 use test_registry::Asks;
 use text_base::{NoMemory, Seq, Txt};
-use xpath_functions::{number_of, truth_of};
+use xpath_functions::number_of;
 use xpath_parser::{Expr, Operand, Start, Step};
 use xpath_values::Value;
 
@@ -98,50 +99,6 @@ fn values<S: Axes, Q: Asks>(
     Ok(found)
 }
 
-/// Whether one of the expressions is true.
-#[cycle(evaluation)]
-fn any<S: Axes, Q: Asks>(
-    alloc: Global,
-    source: &S,
-    es: &[Expr],
-    place: Place,
-    tests: &Q,
-) -> Result<bool, NoMemory>
-    requires row { place.row < length (S.document source.now) }
-    requires tests { All (AsksOnly (Q.kinds tests.now)) es.now }
-    ensures { IfOk result (λ b. b ≡ list_any (λ e. conversions.truth_of (spec.denote (S.document source.now) e (context place))) es.now) }
-{
-    for e in es {
-        let value = value_at(alloc, source, e, place, tests)?;
-        if truth_of(&value) {
-            return Ok(true);
-        }
-    }
-    Ok(false)
-}
-
-/// Whether all of the expressions are true.
-#[cycle(evaluation)]
-fn all<S: Axes, Q: Asks>(
-    alloc: Global,
-    source: &S,
-    es: &[Expr],
-    place: Place,
-    tests: &Q,
-) -> Result<bool, NoMemory>
-    requires row { place.row < length (S.document source.now) }
-    requires tests { All (AsksOnly (Q.kinds tests.now)) es.now }
-    ensures { IfOk result (λ b. b ≡ list_all (λ e. conversions.truth_of (spec.denote (S.document source.now) e (context place))) es.now) }
-{
-    for e in es {
-        let value = value_at(alloc, source, e, place, tests)?;
-        if !truth_of(&value) {
-            return Ok(false);
-        }
-    }
-    Ok(true)
-}
-
 /// A value joined with operands, from the left.
 #[cycle(evaluation)]
 fn joined<S: Axes, Q: Asks>(
@@ -192,7 +149,7 @@ fn union<S: Axes, Q: Asks>(
 
 /// The rows where a path starts.
 #[cycle(evaluation)]
-fn started<S: Axes, Q: Asks>(
+pub fn started<S: Axes, Q: Asks>(
     alloc: Global,
     source: &S,
     start: &Start,
@@ -227,10 +184,28 @@ fn path<S: Axes, Q: Asks>(
     requires tests { All (StepAsks (Q.kinds tests.now)) steps.now }
     ensures { IfOk result (λ found. found ≡ spec.path (S.document source.now) start (map (spec.walk_of (S.document source.now)) steps.now)) }
 {
+    first_steps(alloc, source, start, steps, steps.len(), tests)
+}
+
+/// The rows of the first so many steps of a path.
+#[cycle(evaluation)]
+pub fn first_steps<S: Axes, Q: Asks>(
+    alloc: Global,
+    source: &S,
+    start: Seq<u32>,
+    steps: &[Step],
+    count: usize,
+    tests: &Q,
+) -> Result<Seq<u32>, NoMemory>
+    requires rows { AreRows (S.document source.now) start }
+    requires count { count ≤ length steps.now }
+    requires tests { All (StepAsks (Q.kinds tests.now)) steps.now }
+    ensures { IfOk result (λ found. found ≡ spec.path (S.document source.now) start (map (spec.walk_of (S.document source.now)) (take count steps.now))) }
+{
     let mut rows = start;
     let mut i = 0;
-    while i < steps.len() {
-        if i + 1 < steps.len() && is_all_below(&steps[i]) && is_tested_child(&steps[i + 1]) {
+    while i < count {
+        if i + 1 < count && is_all_below(&steps[i]) && is_tested_child(&steps[i + 1]) {
             rows = all_below(alloc, source, rows.as_slice(), &steps[i + 1], tests)?;
             i += 2;
         } else {
@@ -306,7 +281,7 @@ fn from_each<S: Axes, Q: Asks>(
 
 /// The rows of a step from one row, in the order of its axis.
 #[cycle(evaluation)]
-fn walk<S: Axes, Q: Asks>(
+pub fn walk<S: Axes, Q: Asks>(
     alloc: Global,
     source: &S,
     x: u32,

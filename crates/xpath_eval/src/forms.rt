@@ -1,7 +1,8 @@
 //! What the forms of expressions do to values.
-ghost use Rattle.std.specs.Prelude.{◌≡◌, ◌<◌, ◌≤◌, ◌+◌, [], length, slice_set, IfOk, if◌then◌else◌};
+ghost use Rattle.std.specs.Prelude.{◌≡◌, ◌<◌, ◌≤◌, ◌+◌, [], length, slice_set, IsTrue, IfOk, if◌then◌else◌};
 ghost use Rattle.doc_model.specs.Axes.{axis_list};
 ghost use Rattle.xpath_values.specs.Numbers as numbers;
+ghost use Rattle.xpath_parser.specs.declared.expression.Func.TheVariants as f;
 ghost use Rattle.xpath_parser.specs.Conversions.{rows_of};
 ghost use Rattle.xpath_parser.specs.Denote as spec;
 ghost use Rattle.xpath_parser.specs.Functions as functions;
@@ -117,6 +118,13 @@ pub fn put_if(rows: &mut Vec<u32>, end: usize, row: u32, wanted: bool) -> usize
         return end + 1;
     }
     end
+}
+
+/// Whether a function is `not`.
+pub fn is_not(func: Func) -> bool
+    ensures { IsTrue result → func ≡ f.Not }
+{
+    matches!(func, Func::Not)
 }
 
 /// The value of a function or of a stored test at a place.

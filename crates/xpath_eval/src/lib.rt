@@ -15,8 +15,11 @@
 //!   are asked once for each row, after the rows of all context rows have been put together. Other predicates are asked
 //!   from each context row.
 //! - A number that is written out as a predicate is looked up; where it is 1 and the first predicate, the walk ends at the
-//!   first row, but on the preceding axes. Whether one step without predicates gives a row is asked with no list. `count` of one step without predicates makes no list.
+//!   first row, but on the preceding axes. `count` of one step without predicates makes no list.
 //! - `or` and `and` stop at the first operand that decides.
+//! - Where it is only asked whether a path gives a row, as in a predicate, an operand of `or` or `and`, or the argument of
+//!   `not` there, the rows of all its steps but the last are found, and the last ends at the first row. Without predicates
+//!   it makes no list; otherwise the rows on its axis are listed from one context row after the other, and asked one by one.
 //! - A call of a stored test asks it once, on the string values of its two arguments.
 #![tactic(auto)]
 
@@ -32,5 +35,6 @@ mod predicates;
 mod step_rows;
 mod tests_of_rows;
 mod top;
+mod truths;
 
 pub use top::{eval, eval_with};

@@ -7,10 +7,12 @@ ghost use Rattle.xpath_parser.specs.Denote as spec;
 ghost use Rattle.xpath_eval.specs.Places.{context};
 ghost use Rattle.xpath_eval.specs.Rows.{AreRows, AllBelow};
 
-use crate::counts::{lone_path, only};
+use crate::counts::only;
 use crate::evaluation::value_at;
 use crate::forms::{keeps, put_if, rows_of_nodes};
 use crate::place::Place;
+use crate::tests_of_rows::is_no_number;
+use crate::truths::is_true;
 use doc_model::Axes;
 use std::alloc::Global;
 use test_registry::Asks;
@@ -114,7 +116,7 @@ fn tried<S: Axes, Q: Asks>(
     Ok(())
 }
 
-/// Whether a predicate holds at a place. Whether one step gives a row is asked with no list of its rows.
+/// Whether a predicate holds at a place. Of one that is seen to be no number it is asked whether it is true.
 #[cycle(evaluation)]
 fn holds<S: Axes, Q: Asks>(
     alloc: Global,
@@ -127,8 +129,8 @@ fn holds<S: Axes, Q: Asks>(
     requires tests { AsksOnly (Q.kinds tests.now) predicate.now }
     ensures { IfOk result (λ b. b ≡ spec.keeps place.position (spec.denote (S.document source.now) predicate.now (context place))) }
 {
-    if let Some(step) = lone_path(predicate) {
-        return Ok(source.axis_any(place.row, step.axis, &step.test));
+    if is_no_number(predicate) {
+        return is_true(alloc, source, predicate, place, tests);
     }
     let value = value_at(alloc, source, predicate, place, tests)?;
     Ok(keeps(place.position, &value))

@@ -109,8 +109,8 @@ fn ends_compared(operands: &[Operand]) -> bool
     is_compared(last.op)
 }
 
-/// Whether an expression is seen to be no number.
-fn is_no_number(e: &Expr) -> bool
+/// Whether the value of an expression is seen to be no number.
+pub fn is_no_number(e: &Expr) -> bool
     ensures { IsTrue result → IsNoNumber e.now }
 {
     match e {

@@ -1,7 +1,7 @@
-use Rattle.std.proofs.Common.{rules, arith, ◌≡◌, refl, sym, ◌∙◌, ap, subst, ℕ, ◌+◌, ◌<◌, ◌≤◌, ◌||◌, List, [], ◌∷◌, ◌++◌, length, take, drop, map, get_or, append_assoc}
+use Rattle.std.proofs.Common.{rules, arith, ◌≡◌, refl, sym, ◌∙◌, ap, subst, ℕ, ◌+◌, ◌-◌, ◌<◌, ◌≤◌, ◌||◌, List, [], ◌∷◌, ◌++◌, length, take, drop, map, get_or, append_assoc}
 use Rattle.std.specs.Prelude.{IfOk}
 use Rattle.std.specs.List.{All, list_any, list_all}
-use Rattle.std.proofs.lemmas.List.{take_more}
+use Rattle.std.proofs.lemmas.List.{take_more, take_all}
 use Rattle.std.proofs.lemmas.List.Elements.{All-append, All-cons, All-nil}
 use Rattle.doc_model.specs.RowLists.{has, Run}
 use Rattle.doc_model.specs.Axes.{axis_list}
@@ -9,6 +9,7 @@ use Rattle.doc_model.specs.declared.Axis.TheVariants as axis
 use Rattle.xpath_values.specs.declared.value.Value.{Value}
 use Rattle.xpath_values.specs.declared.value.Value.TheVariants.{Nodes, Num, Str, Bool as Truth}
 use Rattle.xpath_parser.specs.declared.expression.Expr.{Expr}
+use Rattle.xpath_parser.specs.declared.expression.Func.TheVariants as f
 use Rattle.xpath_parser.specs.declared.expression.Operand.{Operand, out-Operand}
 use Rattle.xpath_parser.specs.declared.expression.Step.{Step, out-Step}
 use Rattle.xpath_parser.specs.Conversions as conversions
@@ -21,7 +22,7 @@ use Rattle.xpath_eval.specs.Places.{context}
 use Rattle.xpath_eval.specs.Rows.{AreRows, AllBelow}
 use Rattle.xpath_values.specs.Numbers.{whole}
 use Rattle.xpath_eval.specs.Steps.{IsLoneStep, IsTestedChild}
-use Rattle.xpath_eval.specs.Tests.{AreTests}
+use Rattle.xpath_eval.specs.Tests.{AreTests, passes_all}
 use Rattle.xpath_parser.specs.Asking.{AsksOnly, OperandAsks, StepAsks}
 use Rattle.xpath_parser.specs.declared.expression.Expr as expr
 use Rattle.xpath_parser.specs.declared.expression.Operand as operand
@@ -29,8 +30,10 @@ use Rattle.xpath_parser.specs.declared.expression.Start as start
 use Rattle.xpath_parser.specs.declared.expression.Step as step
 use Rattle.xpath_eval.proofs.Asks as asks
 use Rattle.xpath_eval.proofs.Counting as counting
+use Rattle.xpath_eval.proofs.Covering as covering
 use Rattle.xpath_eval.proofs.Deep as deep
 use Rattle.xpath_eval.proofs.Filtering as filtering
+use Rattle.xpath_eval.proofs.Found as found
 use Rattle.xpath_eval.proofs.Gathers as gathers
 use Rattle.xpath_eval.proofs.Kept as kept
 use Rattle.xpath_eval.proofs.Lists as lists
@@ -92,47 +95,54 @@ predicates::filtered-loop-predicate-preserved g t c =
       few = subst (λ v. length v ≤ length doc) (sym is) (omega (arith, few, fewer));
     }
 
-pub evaluation::path-loop-i-preserved-then-is_tested_child : goal.evaluation::path-loop-i-preserved-then-is_tested_child
-evaluation::path-loop-i-preserved-then-is_tested_child g t c =
+pub evaluation::first_steps-loop-i-preserved-then-is_tested_child : goal.evaluation::first_steps-loop-i-preserved-then-is_tested_child
+evaluation::first_steps-loop-i-preserved-then-is_tested_child g t c =
     let doc = g.S.Tree.document c.args.source.now in
     let ss = c.args.steps.now in
+    let n = c.args.count in
     let i = c.loop-i.i in
+    let few : n ≤ length ss = c.requires.count in
+    let less : i + 1 < n = c.if-i-count.true in
     let first = c.index-steps-i.result in
     let asked = c.index-steps-i-then-is_all_below.result in
     let second = c.index-steps-i-then-is_tested_child.result in
-    let rest = lists.drop_at ss (i + 1) second c.index-steps-i-then-is_tested_child.is c.if-i-steps.true in
-    let same : second ≡ asked = ap (λ (v : List Step). get_or v 0 asked) (sym rest ∙ lists.drop_at ss (i + 1) asked c.index-steps-i-then-is_all_below.is c.if-i-steps.true) in
-    let cut : drop i ss ≡ first ∷ second ∷ drop (i + 2) ss =
-    lists.drop_at ss i first c.index-steps-i.is c.loop-i-test.true ∙ ap (λ v. first ∷ v) (rest ∙ ap (λ k. second ∷ drop k ss) (omega arith)) in
+    let within : i + 1 < length ss = omega (arith, less, few) in
+    let rest = lists.drop_at ss (i + 1) second c.index-steps-i-then-is_tested_child.is within in
+    let same : second ≡ asked = ap (λ (v : List Step). get_or v 0 asked) (sym rest ∙ lists.drop_at ss (i + 1) asked c.index-steps-i-then-is_all_below.is within) in
+    let cut : drop i (take n ss) ≡ first ∷ second ∷ drop (i + 2) (take n ss) =
+    lists.drop_taken ss n i first c.index-steps-i.is c.loop-i-test.true few
+    ∙ ap (λ v. first ∷ v) (lists.drop_taken ss n (i + 1) second c.index-steps-i-then-is_tested_child.is less few ∙ ap (λ k. second ∷ drop k (take n ss)) (omega arith)) in
     let is : c.in_ok-rows.rows ≡ spec.rows_in doc (spec.rows_in doc c.loop-i.rows (spec.walk_of doc first)) (spec.walk_of doc second) =
     c.in_ok-rows.ensures
     ∙ ap (λ v. spec.kept (map (spec.denote doc) (out-Step second).predicates) (spec.rows_in doc v (λ x. axis_list doc x axis.Descendant (out-Step second).test))) c.as_slice.ensures
     ∙ deep.tested_below doc first second c.loop-i.rows (g.met.S.Tree.is_document c.args.source.now) (c.is_all_below.ensures c.if-is_all_below.true) (subst IsTestedChild (sym same) (c.is_tested_child.ensures c.if-is_tested_child.true)) in
     let run : AreRows doc c.in_ok-rows.rows = subst (AreRows doc) (sym is) (gathers.rows_in_run doc (spec.rows_in doc c.loop-i.rows (spec.walk_of doc first)) (spec.walk_of doc second)) in
     record {
-      path = ap (λ v. spec.path doc v (map (spec.walk_of doc) (drop (i + 2) ss))) is
+      path = ap (λ v. spec.path doc v (map (spec.walk_of doc) (drop (i + 2) (take n ss)))) is
           ∙ ap (λ v. spec.path doc c.loop-i.rows (map (spec.walk_of doc) v)) (sym cut) ∙ c.loop-i.invariant.path;
       rows = run;
       below = lists.run_below 0 (length doc) c.in_ok-rows.rows run;
     }
 
-pub evaluation::path-loop-i-preserved : goal.evaluation::path-loop-i-preserved
-evaluation::path-loop-i-preserved g t c =
+pub evaluation::first_steps-loop-i-preserved : goal.evaluation::first_steps-loop-i-preserved
+evaluation::first_steps-loop-i-preserved g t c =
     let doc = g.S.Tree.document c.args.source.now in
     let ss = c.args.steps.now in
+    let n = c.args.count in
     let i = c.loop-i.i in
-    let s = c.index-steps-i-else-i-steps.result in
-    let is : c.in_ok-rows-2.rows ≡ spec.rows_in doc c.loop-i.rows (spec.walk_of doc s) = c.in_ok-rows-2.ensures ∙ ap (λ v. spec.rows_in doc v (spec.walk_of doc s)) c.as_slice-else-i-steps.ensures in
+    let few : n ≤ length ss = c.requires.count in
+    let s = c.index-steps-i-else-i-count.result in
+    let is : c.in_ok-rows-2.rows ≡ spec.rows_in doc c.loop-i.rows (spec.walk_of doc s) = c.in_ok-rows-2.ensures ∙ ap (λ v. spec.rows_in doc v (spec.walk_of doc s)) c.as_slice-else-i-count.ensures in
     let run : AreRows doc c.in_ok-rows-2.rows = subst (AreRows doc) (sym is) (gathers.rows_in_run doc c.loop-i.rows (spec.walk_of doc s)) in
     record {
-      path = ap (λ v. spec.path doc v (map (spec.walk_of doc) (drop (i + 1) ss))) is
-          ∙ ap (λ v. spec.path doc c.loop-i.rows (map (spec.walk_of doc) v)) (sym (lists.drop_at ss i s c.index-steps-i-else-i-steps.is c.loop-i-test.true)) ∙ c.loop-i.invariant.path;
+      path = ap (λ v. spec.path doc v (map (spec.walk_of doc) (drop (i + 1) (take n ss)))) is
+          ∙ ap (λ v. spec.path doc c.loop-i.rows (map (spec.walk_of doc) v)) (sym (lists.drop_taken ss n i s c.index-steps-i-else-i-count.is c.loop-i-test.true few)) ∙ c.loop-i.invariant.path;
       rows = run;
       below = lists.run_below 0 (length doc) c.in_ok-rows-2.rows run;
     }
 
-pub evaluation::path-loop-i-init : goal.evaluation::path-loop-i-init
-evaluation::path-loop-i-init g t c = let doc = g.S.Tree.document c.args.source.now in record { path = refl; rows = c.requires.rows; below = lists.run_below 0 (length doc) c.args.start c.requires.rows }
+pub evaluation::first_steps-loop-i-init : goal.evaluation::first_steps-loop-i-init
+evaluation::first_steps-loop-i-init g t c = let doc = g.S.Tree.document c.args.source.now in record { path = refl; rows = c.requires.rows; below = lists.run_below 0 (length doc) c.args.start c.requires.rows }
 
 pub evaluation::values-loop-e-preserved : goal.evaluation::values-loop-e-preserved
 evaluation::values-loop-e-preserved g t c =
@@ -324,20 +334,20 @@ evaluation::value_at-returns-in-Some-clause-value g t c =
     ∙ sym (ap (λ f. called doc f (map (λ x. spec.denote doc x at) c.in-Call.es) at) (c.is_count.ensures c.if-is_count.true))
     ∙ sym (eqs.at_call doc c.in-Call.func c.in-Call.es at) ∙ sym (ap (λ x. spec.denote doc x at) c.in-Call.is)
 
-pub predicates::holds-returns-in-Some : goal.predicates::holds-returns-in-Some
-predicates::holds-returns-in-Some g t c =
+pub truths::is_true-returns-in-Some : goal.truths::is_true-returns-in-Some
+truths::is_true-returns-in-Some g t c =
     let doc = g.S.Tree.document c.args.source.now in
-    c.axis_any.ensures ∙ counting.held doc c.args.predicate.now c.in-Some.step.now (context c.args.place) c.args.place.position c.in-Some.ensures
+    c.axis_any.ensures ∙ counting.held doc c.args.e.now c.in-Some.step.now (context c.args.place) c.in-Some.ensures
 
 -- ---- the parts ask no more than the whole
 
-pub evaluation::all-value_at-requires : goal.evaluation::all-value_at-requires
-evaluation::all-value_at-requires g t c =
+pub truths::all-is_true-requires : goal.truths::all-is_true-requires
+truths::all-is_true-requires g t c =
     let part = asks.at_one (AsksOnly (g.Q.Asks.kinds c.args.tests.now)) c.args.es.now c.loop-e.e-index c.e-item.result c.e-item.is c.loop-e-test.true c.requires.tests in
     search (rules, expr.the_lemmas)
 
-pub evaluation::any-value_at-requires : goal.evaluation::any-value_at-requires
-evaluation::any-value_at-requires g t c =
+pub truths::any-is_true-requires : goal.truths::any-is_true-requires
+truths::any-is_true-requires g t c =
     let part = asks.at_one (AsksOnly (g.Q.Asks.kinds c.args.tests.now)) c.args.es.now c.loop-e.e-index c.e-item.result c.e-item.is c.loop-e-test.true c.requires.tests in
     search (rules, expr.the_lemmas)
 
@@ -361,14 +371,18 @@ predicates::filtered-kept-requires g t c =
     let part = asks.at_one (AsksOnly (g.Q.Asks.kinds c.args.tests.now)) c.args.predicates.now c.loop-predicate.predicate-index c.predicate-item.result c.predicate-item.is c.loop-predicate-test.true c.requires.tests in
     search (rules, expr.the_lemmas)
 
-pub evaluation::path-all_below-requires : goal.evaluation::path-all_below-requires
-evaluation::path-all_below-requires g t c =
-    let part = asks.at_one (StepAsks (g.Q.Asks.kinds c.args.tests.now)) c.args.steps.now (c.loop-i.i + 1) c.index-steps-i-then-is_tested_child.result c.index-steps-i-then-is_tested_child.is c.if-i-steps.true c.requires.tests in
+pub evaluation::first_steps-all_below-requires : goal.evaluation::first_steps-all_below-requires
+evaluation::first_steps-all_below-requires g t c =
+    let less : c.loop-i.i + 1 < c.args.count = c.if-i-count.true in
+    let few : c.args.count ≤ length c.args.steps.now = c.requires.count in
+    let part = asks.at_one (StepAsks (g.Q.Asks.kinds c.args.tests.now)) c.args.steps.now (c.loop-i.i + 1) c.index-steps-i-then-is_tested_child.result c.index-steps-i-then-is_tested_child.is (omega (arith, less, few)) c.requires.tests in
     search (rules, step.the_lemmas)
 
-pub evaluation::path-after-requires : goal.evaluation::path-after-requires
-evaluation::path-after-requires g t c =
-    let part = asks.at_one (StepAsks (g.Q.Asks.kinds c.args.tests.now)) c.args.steps.now c.loop-i.i c.index-steps-i-else-i-steps.result c.index-steps-i-else-i-steps.is c.loop-i-test.true c.requires.tests in
+pub evaluation::first_steps-after-requires : goal.evaluation::first_steps-after-requires
+evaluation::first_steps-after-requires g t c =
+    let less : c.loop-i.i < c.args.count = c.loop-i-test.true in
+    let few : c.args.count ≤ length c.args.steps.now = c.requires.count in
+    let part = asks.at_one (StepAsks (g.Q.Asks.kinds c.args.tests.now)) c.args.steps.now c.loop-i.i c.index-steps-i-else-i-count.result c.index-steps-i-else-i-count.is (omega (arith, less, few)) c.requires.tests in
     search (rules, step.the_lemmas)
 
 pub evaluation::after-filtered-requires : goal.evaluation::after-filtered-requires
@@ -449,3 +463,172 @@ evaluation::value_at-values-requires g t c =
 pub evaluation::value_at-called-requires-clause-kind : goal.evaluation::value_at-called-requires-clause-kind
 evaluation::value_at-called-requires-clause-kind g t c =
     asks.called_asks (g.Q.Asks.kinds c.args.tests.now) c.args.e.now c.requires.tests c.in-Call.func c.in-Call.es c.in-Call.is
+
+-- ---- truths
+
+pub truths::is_true-returns-in-Or : goal.truths::is_true-returns-in-Or
+truths::is_true-returns-in-Or g t c =
+    let doc = g.S.Tree.document c.args.source.now in
+    let at = context c.args.place in
+    subst (λ w. IfOk c.any.result (λ b. b ≡ w))
+    (ap (list_any (λ x. conversions.truth_of (spec.denote doc x at))) c.as_slice.ensures
+    ∙ ap conversions.truth_of (sym (eqs.at_or doc c.in-Or.es at) ∙ sym (ap (λ x. spec.denote doc x at) c.in-Or.is)))
+    c.any.ensures
+
+pub truths::is_true-returns-in-And : goal.truths::is_true-returns-in-And
+truths::is_true-returns-in-And g t c =
+    let doc = g.S.Tree.document c.args.source.now in
+    let at = context c.args.place in
+    subst (λ w. IfOk c.all.result (λ b. b ≡ w))
+    (ap (list_all (λ x. conversions.truth_of (spec.denote doc x at))) c.as_slice-in-And.ensures
+    ∙ ap conversions.truth_of (sym (eqs.at_and doc c.in-And.es at) ∙ sym (ap (λ x. spec.denote doc x at) c.in-And.is)))
+    c.all.ensures
+
+pub truths::is_true-returns-in-Path : goal.truths::is_true-returns-in-Path
+truths::is_true-returns-in-Path g t c =
+    let doc = g.S.Tree.document c.args.source.now in
+    let at = context c.args.place in
+    subst (λ w. IfOk c.finds.result (λ b. b ≡ w))
+    (ap (λ r. conversions.is_any (spec.path doc r (map (spec.walk_of doc) c.as_slice-in-Path.result.now))) c.in_ok-rows-in-Path.ensures.rows
+    ∙ ap (λ ss. conversions.is_any (spec.path doc (spec.start_of doc c.in-Path.start at) (map (spec.walk_of doc) ss))) c.as_slice-in-Path.ensures
+    ∙ ap conversions.truth_of (sym (eqs.at_path doc c.in-Path.start c.in-Path.steps at) ∙ sym (ap (λ x. spec.denote doc x at) c.in-Path.is)))
+    c.finds.ensures
+
+pub truths::is_true-returns-then-is_not : goal.truths::is_true-returns-then-is_not
+truths::is_true-returns-then-is_not g t c =
+    let doc = g.S.Tree.document c.args.source.now in
+    let at = context c.args.place in
+    let es = c.in-Call.es in
+    let values : List Expr → List Value = map (λ x. spec.denote doc x at) in
+    lists.if_ok_from c.first_is_false.result (λ b. Truth b ≡ called doc f.Not (values c.as_slice-then-is_not.result.now) at) (λ b. b ≡ conversions.truth_of (spec.denote doc c.args.e.now at))
+    (λ b is. ap conversions.truth_of (is ∙ ap (λ v. called doc f.Not (values v) at) c.as_slice-then-is_not.ensures
+    ∙ ap (λ v. called doc v (values es) at) (sym (c.is_not.ensures c.if-is_not.true)) ∙ sym (eqs.at_call doc c.in-Call.func es at) ∙ sym (ap (λ x. spec.denote doc x at) c.in-Call.is)))
+    c.first_is_false.ensures
+
+pub truths::gives-returns-then-are_tests : goal.truths::gives-returns-then-are_tests
+truths::gives-returns-then-are_tests g t c =
+    let doc = g.S.Tree.document c.args.source.now in
+    subst (λ w. IfOk c.tested.result (λ b. b ≡ w))
+    (found.any_tested doc c.args.step.now c.args.rows.now (subst AreTests c.as_slice.ensures (c.are_tests.ensures c.if-are_tests.true)))
+    c.tested.ensures
+
+pub truths::gives-returns : goal.truths::gives-returns
+truths::gives-returns g t c =
+    subst (λ w. IfOk c.walks.result (λ b. b ≡ w)) (found.any_walked (g.S.Tree.document c.args.source.now) c.args.step.now c.args.rows.now) c.walks.ensures
+
+pub truths::tested-returns-then-may_cover : goal.truths::tested-returns-then-may_cover
+truths::tested-returns-then-may_cover g t c =
+    let doc = g.S.Tree.document c.args.source.now in
+    let s = out-Step c.args.step.now in
+    let w : ℕ → List ℕ = λ x. axis_list doc x c.args.axis s.test in
+    subst (λ v. IfOk c.each_tested.result (λ b. b ≡ v))
+    (ap (list_any (λ x. list_any (passes_all doc s.predicates) (w x))) c.as_slice.ensures.value
+    ∙ found.any_in doc (passes_all doc s.predicates) c.in_ok-few.few.items w (λ x. kept.axis_below doc x c.args.axis s.test)
+    ∙ ap (list_any (passes_all doc s.predicates)) (covering.covered_rows doc c.args.axis s.test c.args.rows.now c.in_ok-few.few.items c.in_ok-few.ensures.covers))
+    c.each_tested.ensures
+
+pub truths::tested-returns : goal.truths::tested-returns
+truths::tested-returns g t c =
+    let doc = g.S.Tree.document c.args.source.now in
+    let s = out-Step c.args.step.now in
+    subst (λ v. IfOk c.each_tested-2.result (λ b. b ≡ v))
+    (found.any_in doc (passes_all doc s.predicates) c.args.rows.now (λ x. axis_list doc x c.args.axis s.test) (λ x. kept.axis_below doc x c.args.axis s.test))
+    c.each_tested-2.ensures
+
+pub truths::tested_from-returns-then-len-eq0 : goal.truths::tested_from-returns-then-len-eq0
+truths::tested_from-returns-then-len-eq0 g t c =
+    let doc = g.S.Tree.document c.args.source.now in
+    let s = out-Step c.args.step.now in
+    c.axis_any.ensures ∙ found.any_plain doc s.predicates (axis_list doc c.args.x c.args.axis s.test) (sym c.len.ensures ∙ c.if-len-eq0.true)
+
+pub truths::tested_from-returns : goal.truths::tested_from-returns
+truths::tested_from-returns g t c =
+    let doc = g.S.Tree.document c.args.source.now in
+    let s = out-Step c.args.step.now in
+    subst (λ v. IfOk c.one_passes.result (λ b. b ≡ v))
+    (ap (λ ps. list_any (passes_all doc ps) c.as_slice.result.now) c.as_slice-2.ensures
+    ∙ ap (list_any (passes_all doc s.predicates)) (c.as_slice.ensures.value ∙ c.in_ok-rows.ensures.rows))
+    c.one_passes.ensures
+
+pub truths::finds-returns-then-ends_below : goal.truths::finds-returns-then-ends_below
+truths::finds-returns-then-ends_below g t c =
+    let doc = g.S.Tree.document c.args.source.now in
+    let s = c.index-steps-last.result in
+    let ss = c.args.steps.now in
+    subst (λ v. IfOk c.tested.result (λ b. b ≡ v))
+    (ap (λ r. list_any (passes_all doc (out-Step s).predicates) (spec.rows_in doc r (λ x. axis_list doc x axis.Descendant (out-Step s).test))) (c.as_slice.ensures ∙ c.in_ok-rows.ensures)
+    ∙ found.any_below doc c.args.start ss s (g.met.S.Tree.is_document c.args.source.now) (c.ends_below.ensures.steps c.if-ends_below.true) c.index-steps-last.is)
+    c.tested.ensures
+
+pub truths::finds-returns : goal.truths::finds-returns
+truths::finds-returns g t c =
+    let doc = g.S.Tree.document c.args.source.now in
+    let s = c.index-steps-last-2.result in
+    let ss = c.args.steps.now in
+    let some = c.if-steps-eq0.false in
+    subst (λ v. IfOk c.gives.result (λ b. b ≡ v))
+    (ap (λ r. conversions.is_any (spec.rows_in doc r (spec.walk_of doc s))) (c.as_slice-2.ensures ∙ c.in_ok-rows-2.ensures)
+    ∙ found.any_last doc c.args.start ss s (length ss - 1) (omega (arith, some)) c.index-steps-last-2.is)
+    c.gives.ensures
+
+pub truths::finds-tested-requires : goal.truths::finds-tested-requires
+truths::finds-tested-requires g t c =
+    let doc = g.S.Tree.document c.args.source.now in
+    let ss = c.args.steps.now in
+    let some = c.if-steps-eq0.false in
+    let part = asks.at_one (StepAsks (g.Q.Asks.kinds c.args.tests.now)) ss (length ss - 1) c.index-steps-last.result c.index-steps-last.is (omega (arith, some)) c.requires.tests in
+    let below = gathers.path_below doc c.args.start (map (spec.walk_of doc) (take (length ss - 1 - 1) ss)) c.as_slice.result.now (c.as_slice.ensures ∙ c.in_ok-rows.ensures) c.requires.rows in
+    search (rules, step.the_lemmas)
+
+pub truths::finds-gives-requires : goal.truths::finds-gives-requires
+truths::finds-gives-requires g t c =
+    let doc = g.S.Tree.document c.args.source.now in
+    let ss = c.args.steps.now in
+    let some = c.if-steps-eq0.false in
+    let part = asks.at_one (StepAsks (g.Q.Asks.kinds c.args.tests.now)) ss (length ss - 1) c.index-steps-last-2.result c.index-steps-last-2.is (omega (arith, some)) c.requires.tests in
+    let below = gathers.path_below doc c.args.start (map (spec.walk_of doc) (take (length ss - 1) ss)) c.as_slice-2.result.now (c.as_slice-2.ensures ∙ c.in_ok-rows-2.ensures) c.requires.rows in
+    search (rules, step.the_lemmas)
+
+pub truths::tested_from-one_passes-requires : goal.truths::tested_from-one_passes-requires
+truths::tested_from-one_passes-requires g t c =
+    let doc = g.S.Tree.document c.args.source.now in
+    let part = subst (All (AsksOnly (g.Q.Asks.kinds c.args.tests.now))) (sym c.as_slice-2.ensures) c.requires.tests in
+    let below = subst (AllBelow (length doc)) (sym c.as_slice.ensures.value) c.in_ok-rows.ensures.below in
+    search (rules, step.the_lemmas)
+
+pub truths::first_is_false-is_true-requires : goal.truths::first_is_false-is_true-requires
+truths::first_is_false-is_true-requires g t c =
+    let some = c.if-es-eq0.false in
+    let part = asks.at_one (AsksOnly (g.Q.Asks.kinds c.args.tests.now)) c.args.es.now 0 c.index-es-0.result c.index-es-0.is (omega (arith, some)) c.requires.tests in
+    search (rules, expr.the_lemmas)
+
+pub truths::is_true-any-requires : goal.truths::is_true-any-requires
+truths::is_true-any-requires g t c =
+    let part = asks.or_asks _ c.args.e.now c.requires.tests c.in-Or.es c.as_slice.result.now c.in-Or.is c.as_slice.ensures in
+    search (rules, expr.the_lemmas)
+
+pub truths::is_true-all-requires : goal.truths::is_true-all-requires
+truths::is_true-all-requires g t c =
+    let part = asks.and_asks _ c.args.e.now c.requires.tests c.in-And.es c.as_slice-in-And.result.now c.in-And.is c.as_slice-in-And.ensures in
+    search (rules, expr.the_lemmas)
+
+pub truths::is_true-started-requires : goal.truths::is_true-started-requires
+truths::is_true-started-requires g t c =
+    let part = asks.start_asks _ c.args.e.now c.requires.tests c.in-Path.start c.in-Path.steps c.in-Path.is in
+    search (rules, expr.the_lemmas)
+
+pub truths::is_true-finds-requires : goal.truths::is_true-finds-requires
+truths::is_true-finds-requires g t c =
+    let part = asks.steps_ask _ c.args.e.now c.requires.tests c.in-Path.start c.in-Path.steps c.as_slice-in-Path.result.now c.in-Path.is c.as_slice-in-Path.ensures in
+    search (rules, expr.the_lemmas)
+
+pub truths::is_true-first_is_false-requires : goal.truths::is_true-first_is_false-requires
+truths::is_true-first_is_false-requires g t c =
+    let es = c.in-Call.es in
+    let part = asks.args_ask _ c.args.e.now c.requires.tests c.in-Call.func es c.as_slice-then-is_not.result.now c.in-Call.is c.as_slice-then-is_not.ensures in
+    search (rules, expr.the_lemmas)
+
+pub evaluation::path-returns : goal.evaluation::path-returns
+evaluation::path-returns g t c =
+    let doc = g.S.Tree.document c.args.source.now in
+    subst (λ v. IfOk c.first_steps.result (λ found. found ≡ v)) (ap (λ ss. spec.path doc c.args.start (map (spec.walk_of doc) ss)) (take_all (length c.args.steps.now) c.args.steps.now (omega arith))) c.first_steps.ensures

@@ -1,23 +1,26 @@
-use Rattle.std.proofs.Common.{◌≡◌, ◌≤◌, ◌-◌, ◌++◌, length, take, drop, map}
+use Rattle.std.proofs.Common.{◌≡◌, ℕ, ◌≤◌, ◌-◌, ◌++◌, length, take, drop, map}
 use Rattle.std.specs.List.{list_any, list_all}
+use Rattle.doc_model.specs.Axes.{axis_list}
 use Rattle.xpath_parser.specs.declared.expression.Expr.{Expr}
+use Rattle.xpath_parser.specs.declared.expression.Step.{out-Step}
 use Rattle.xpath_parser.specs.declared.expression.Operand.{Operand}
 use Rattle.xpath_parser.specs.Conversions as conversions
 use Rattle.xpath_parser.specs.Denote as spec
 use Rattle.xpath_functions.specs.Rows.{AreWithin}
 use Rattle.xpath_eval.specs.Places.{context}
 use Rattle.xpath_eval.specs.Rows.{AreRows, AllBelow}
+use Rattle.xpath_eval.specs.Tests.{passes_all}
 use Rattle.xpath_eval.proofs.Gathers.{Gathered}
 use Rattle.xpath_eval.proofs.Turns.{Keeping}
 use Rattle.xpath_eval.proofs.+evaluation.Given as goal
 
-abbrev pub invariant-evaluation::any-loop-e : goal.invariant-evaluation::any-loop-e
-invariant-evaluation::any-loop-e g l =
+abbrev pub invariant-truths::any-loop-e : goal.invariant-truths::any-loop-e
+invariant-truths::any-loop-e g l =
     let test = λ (e : Expr). conversions.truth_of (spec.denote (g.S.Tree.document l.source) e (context l.place)) in
     list_any test (drop l.e-index l.es) ≡ list_any test l.es
 
-abbrev pub invariant-evaluation::all-loop-e : goal.invariant-evaluation::all-loop-e
-invariant-evaluation::all-loop-e g l =
+abbrev pub invariant-truths::all-loop-e : goal.invariant-truths::all-loop-e
+invariant-truths::all-loop-e g l =
     let test = λ (e : Expr). conversions.truth_of (spec.denote (g.S.Tree.document l.source) e (context l.place)) in
     list_all test (drop l.e-index l.es) ≡ list_all test l.es
 
@@ -41,17 +44,17 @@ invariant-evaluation::union-loop-e g l =
     let doc = g.S.Tree.document l.source in
     Gathered (length doc) (take l.e-index l.es) (λ (e : Expr). conversions.rows_of (spec.denote doc e (context l.place))) l.found.items
 
-abbrev pub invariant-evaluation::path-loop-i : goal.invariant-evaluation::path-loop-i
-invariant-evaluation::path-loop-i g l =
+abbrev pub invariant-evaluation::first_steps-loop-i : goal.invariant-evaluation::first_steps-loop-i
+invariant-evaluation::first_steps-loop-i g l =
     let doc = g.S.Tree.document l.source in
     record {
-      path : spec.path doc l.rows (map (spec.walk_of doc) (drop l.i l.steps)) ≡ spec.path doc l.fn.start (map (spec.walk_of doc) l.steps);
+      path : spec.path doc l.rows (map (spec.walk_of doc) (drop l.i (take l.count l.steps))) ≡ spec.path doc l.fn.start (map (spec.walk_of doc) (take l.count l.steps));
       rows : AreRows doc l.rows;
       below : AllBelow (length doc) l.rows;
     }
 
-abbrev pub decreases-evaluation::path-loop-i : goal.decreases-evaluation::path-loop-i
-decreases-evaluation::path-loop-i g l = length l.steps - l.i
+abbrev pub decreases-evaluation::first_steps-loop-i : goal.decreases-evaluation::first_steps-loop-i
+decreases-evaluation::first_steps-loop-i g l = l.count - l.i
 
 abbrev pub invariant-evaluation::from_each-loop-x : goal.invariant-evaluation::from_each-loop-x
 invariant-evaluation::from_each-loop-x g l =
@@ -73,3 +76,20 @@ invariant-predicates::tried-loop-position g l =
 
 abbrev pub decreases-predicates::tried-loop-position : goal.decreases-predicates::tried-loop-position
 decreases-predicates::tried-loop-position g l = l.size - l.position
+
+abbrev pub invariant-truths::walks-loop-x : goal.invariant-truths::walks-loop-x
+invariant-truths::walks-loop-x g l =
+    let test = λ (x : ℕ). conversions.is_any (spec.walk_of (g.S.Tree.document l.source) l.step x) in
+    list_any test (drop l.x-index l.rows) ≡ list_any test l.rows
+
+abbrev pub invariant-truths::each_tested-loop-x : goal.invariant-truths::each_tested-loop-x
+invariant-truths::each_tested-loop-x g l =
+    let doc = g.S.Tree.document l.source in
+    let s = out-Step l.step in
+    let test = λ (x : ℕ). list_any (λ y. passes_all doc s.predicates y) (axis_list doc x l.axis s.test) in
+    list_any test (drop l.x-index l.rows) ≡ list_any test l.rows
+
+abbrev pub invariant-truths::one_passes-loop-y : goal.invariant-truths::one_passes-loop-y
+invariant-truths::one_passes-loop-y g l =
+    let test = λ (y : ℕ). passes_all (g.S.Tree.document l.source) l.predicates y in
+    list_any test (drop l.y-index l.rows) ≡ list_any test l.rows
