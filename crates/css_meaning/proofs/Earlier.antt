@@ -60,9 +60,6 @@ is_nearest_from doc z x h =
 abbrev pub NoneAfter : Document → ℕ → ℕ → Type 0
 NoneAfter doc y x = (z : ℕ) → is_earlier doc z x ≡ true → z ≤ y
 
-pub none_at_first : (doc : Document) (x : ℕ) → NoneAfter doc (x - 1) x
-none_at_first doc x z h = let l : z < x = (earlier doc z x h).less in omega arith
-
 pub none_of_root : (doc : Document) (z : ℕ) → is_earlier doc z 0 ≡ false
 none_of_root doc z = false_from_ne_true _ (λ h. let l : z < 0 = (earlier doc z 0 h).less in omega arith)
 

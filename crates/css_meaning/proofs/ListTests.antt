@@ -127,6 +127,3 @@ pub any_one : (p : ℕ → Bool) (xs : List ℕ) (r : ℕ) → list_any (λ x. p
 any_one p [] r = sym (and_false (p r))
 any_one p (x ∷ xs) r =
     ap (λ b. (p x && eqb x r) || b) (any_one p xs r) ∙ merge (p x) (p r) (eqb x r) (is_in xs r) (λ h. ap p (eqb-true x r h))
-
-pub filter_itself : (p : ℕ → Bool) (xs : List ℕ) → filter p xs ≡ filter (λ r. is_in (filter p xs) r) xs
-filter_itself p xs = filter_among p (λ r. is_in (filter p xs) r) xs (λ r h. sym (in_filter p xs r ∙ ap (λ b. p r && b) h ∙ and_true (p r)))

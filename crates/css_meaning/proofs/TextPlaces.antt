@@ -6,7 +6,7 @@ use Rattle.std.specs.List.{range_with_len}
 use Rattle.std.specs.Str.{chars, IsUtf8}
 use Rattle.std.specs.Cmp.Lexicographic.{pointwise}
 use Rattle.std.proofs.lemmas.Bool.{or_left, or_right, or_parts, or_cases, and_right, and_from, and_parts, both_ways, ne_eqb}
-use Rattle.std.proofs.lemmas.List.{drop_more, drop_all}
+use Rattle.std.proofs.lemmas.List.{drop_more}
 use Rattle.std.proofs.lemmas.Str.{encodes-append, encodes-chars, chars-nil}
 use Rattle.text_base.specs.Strings.{starts_with, contains}
 use Rattle.doc_model.specs.declared.Kind.{Kind}
@@ -81,9 +81,6 @@ pub begins_here : (a rest v : List ℕ) (i : ℕ) → i < length a → starts_wi
 begins_here a rest v i l h =
     let e : drop i a ≡ get_or a i 0 ∷ drop (i + 1) a = drop_more a i 0 l in
     ap (λ t. begins_in t rest v) e ∙ or_left _ _ (ap (λ t. starts_with (t ++ rest) v) (sym e) ∙ h)
-
-pub begins_none : (a rest v : List ℕ) (i : ℕ) → length a ≤ i → begins_in (drop i a) rest v ≡ false
-begins_none a rest v i l = ap (λ t. begins_in t rest v) (drop_all i a l)
 
 -- ---- the texts from row to row
 

@@ -18,9 +18,6 @@ pub down_self : (doc : Document) (x : ℕ) (a : Axis) (t : NodeTest) (n : List �
     → axis_list doc x a t ≡ cond (is_named doc n x) (x ∷ []) [] ++ named_below doc x n
 down_self doc x a t n d l e f = ap (λ b. axis_list doc x b t) e ∙ ap (axis_list doc x axis.DescendantOrSelf) f ∙ with_self doc x n d l
 
-pub front_below : (old new answers all : List ℕ) → old ≡ [] → all ≡ answers → GrowsByFront old new answers → IsFront new all
-front_below old new answers all e f h = (h.2.0, f ∙ h.2.1 ∙ ap (λ v. v ++ h.2.0) (sym (h.1 ∙ ap (λ v. v ++ h.0) e)))
-
 pub front_behind : (old first out new answers all : List ℕ) → old ≡ [] → out ≡ old ++ first → all ≡ first ++ answers → GrowsByFront out new answers → IsFront new all
 front_behind old first out new answers all e o f h =
     (h.2.0, f ∙ ap (λ v. first ++ v) h.2.1 ∙ sym (append_assoc first h.0 h.2.0) ∙ ap (λ v. v ++ h.2.0) (sym (h.1 ∙ ap (λ v. v ++ h.0) (o ∙ ap (λ v. v ++ first) e))))

@@ -50,9 +50,6 @@ some_element doc (suc y) d e = omega arith
 
 -- ---- the table
 
-pub start_children : (doc : Document) → HasChildren doc [] [] 0
-start_children doc = record { ranked = refl; counted = refl; rank = λ y l. absurd (omega (arith, l)); count = λ p l. absurd (omega (arith, l)) }
-
 -- a rank that was put last
 rank_more : (doc : Document) (ranks : List ℕ) (b r : ℕ) → length ranks ≡ b → (is_element doc b ≡ true → r ≡ children_before doc (is_element doc) (row doc b).parent b)
     → ((y : ℕ) → y < b → is_element doc y ≡ true → get_or ranks y 0 ≡ children_before doc (is_element doc) (row doc y).parent y)

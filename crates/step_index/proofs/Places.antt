@@ -136,9 +136,6 @@ start_halved s e n h = let z : s - s ≡ 0 = omega arith in rw z (omega arith)
 pub start_cost : (s n : ℕ) → 2 ^ (s - s) ≤ 2 * n + 1
 start_cost s n = let z : s - s ≡ 0 = omega arith in rw z (omega arith)
 
-pub same_cost : (s o k a n : ℕ) → k ≡ a → 2 ^ (s - o) ≤ 2 * n + 1 → 2 ^ (s - o - (k - a)) ≤ 2 * n + 1
-same_cost s o k a n e h = let z : s - o - (k - a) ≡ s - o = omega arith in rw z h
-
 pub more_cost : (s t o k a n : ℕ) → t ≡ s + 1 → a ≤ k → o + (k - a) ≤ s → 2 ^ (s - o - (k - a)) ≤ 2 * n + 1 → 2 ^ (t - o - (k + 1 - a)) ≤ 2 * n + 1
 more_cost s t o k a n e l r h = let z : t - o - (k + 1 - a) ≡ s - o - (k - a) = omega arith in rw z h
 

@@ -71,9 +71,6 @@ led_as_named doc y p b l k e =
 
 -- ---- the table
 
-pub start_alike : (doc : Document) (t : ℕ → ℕ → ℕ) → ((p f : ℕ) → t p f ≡ 0) → HasAlike doc [] t 0
-start_alike doc t h = record { ranked = refl; rank = λ y l. absurd (omega (arith, l)); count = λ p f. h p f }
-
 rank_more : (doc : Document) (ranks : List ℕ) (b r : ℕ) → length ranks ≡ b → (is_element doc b ≡ true → r ≡ children_before doc (is_named doc (row doc b).name) (row doc b).parent b)
     → ((y : ℕ) → y < b → is_element doc y ≡ true → get_or ranks y 0 ≡ children_before doc (is_named doc (row doc y).name) (row doc y).parent y)
     → (y : ℕ) → y < b + 1 → is_element doc y ≡ true → get_or (ranks ++ r ∷ []) y 0 ≡ children_before doc (is_named doc (row doc y).name) (row doc y).parent y
