@@ -26,11 +26,6 @@ calm g w some own = record {
       both_ways _ last.1 (own y (omega arith) last.2);
 }
 
-pub awaits_behind_tag : (g known : Growing) (name : List ℕ) → IsGrowing g → g ≡ with_element known name → AwaitsText g
-awaits_behind_tag g known name w e =
-    subst AwaitsText (sym e)
-    (calm (with_element known name) (subst IsGrowing e w) (λ h. cc) (λ y l k. absurd (omega (arith, l, k, length_push known.rows (element_row (innermost known.open_rows) name)))))
-
 pub awaits_behind_attr : (g known : Growing) (name attr value : List ℕ) → IsGrowing g → g ≡ with_attr (with_element known name) attr value → AwaitsText g
 awaits_behind_attr g known name attr value w e =
     let tag = with_element known name in

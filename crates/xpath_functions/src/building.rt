@@ -10,12 +10,11 @@ ghost use Rattle.xpath_functions.specs.Translations.{image_in, turned};
 ghost use Rattle.xpath_parser.specs.Functions.{concat_of};
 ghost use Rattle.xpath_values.specs.Strings as strings;
 
-use crate::conversions::is_empty;
 use crate::texts::value_text;
 use doc_model::Tree;
 use std::alloc::Global;
 use std::collections::BTreeMap;
-use text_base::{NoMemory, is_space4};
+use text_base::{NoMemory, is_empty, is_space4};
 use xpath_values::Value;
 
 /// Adds a text.

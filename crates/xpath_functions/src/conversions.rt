@@ -1,14 +1,12 @@
 //! Conversions of values, XPath 1.0, sections 4.2 to 4.4.
 ghost use Rattle.std.specs.Prelude.{◌≡◌, IfOk};
-ghost use Rattle.std.specs.Str.{chars};
-ghost use Rattle.xpath_values.specs.Strings as strings;
 ghost use Rattle.xpath_functions.specs.Rows.{IsWithin};
 ghost use Rattle.xpath_parser.specs.Conversions as spec;
 
 use crate::texts::value_text;
 use doc_model::Tree;
 use std::alloc::Global;
-use text_base::{NoMemory, Txt};
+use text_base::{NoMemory, Txt, is_empty};
 use xpath_values::{Value, XNum, to_number};
 
 /// The string of a value: of a node-set the string value of its first row, or the empty text.
@@ -31,13 +29,6 @@ pub fn number_of<T: Tree>(alloc: Global, tree: &T, value: &Value) -> Result<XNum
         Value::Str(text) => Ok(to_number(text.as_str())),
         Value::Nodes(_) => Ok(to_number(value_text(alloc, tree, value)?.as_str())),
     }
-}
-
-#[tactic(auto, using(xpath_values::proofs::Texts::empty_chars))]
-pub fn is_empty(text: &str) -> bool
-    ensures { result ≡ strings.is_empty (chars text.now) }
-{
-    text.is_empty()
 }
 
 /// The truth of a value: that a node-set or a string is not empty, and a number neither 0 nor NaN.
