@@ -1,11 +1,10 @@
 -- A page has one line.
 use Rattle.std.proofs.Common.{◌≡◌, refl, ℕ, List, [], ◌∷◌, length, ap, ap₂, sym, ◌∙◌, subst, arith, inl, inr, ◌≤◌, ◌<◌}
-use Rattle.std.specs.Prelude.{Result, IfOk, Ok, true}
+use Rattle.std.specs.Prelude.{Result, IfOk, true}
 use Rattle.std.proofs.lemmas.Result.{IfOk-weaker}
 use Rattle.text_base.specs.declared.memory.NoMemory.{NoMemory}
 use Rattle.std.specs.List.{list_any}
 use Rattle.text_base.specs.declared.reasons.PageFault.{PageFault}
-use Rattle.text_base.specs.Decoding.{decoded}
 use Rattle.doc_model.specs.Document.{Document}
 use Rattle.html_reader.specs.Pages.{BuildsPage, IsPageFault}
 use Rattle.query_script.specs.declared.script.Field.{Field}
@@ -23,13 +22,6 @@ same_fault f g p q = ap₂ (λ r a. record { reason = r; at = a }) p q
 -- a document shows one line
 abbrev pub ShowsOne : (List ℕ → Document → Answer → Type 0) → Type 0
 ShowsOne shows = (name : List ℕ) (doc : Document) (a b : Answer) → shows name doc a → shows name doc b → a ≡ b
-
--- the line of the text that the bytes decode to
-pub line_of_text : (fields : List Field) (name bytes text : List ℕ) (a : Answer) → length bytes ≤ most_page → decoded bytes ≡ Ok text → IsTextLine (IsValuesLine fields) name text a → IsPageLine (IsValuesLine fields) name bytes a
-line_of_text fields name bytes text a short decodes (inl h) =
-    inl (record { fault = h.fault; cause = inr (inr (record { short = short; text = text; decodes = decodes; is = h.is })); line = h.line })
-line_of_text fields name bytes text a short decodes (inr h) =
-    inr (record { short = short; text = text; decodes = decodes; doc = h.doc; builds = h.builds; shown = h.shown })
 
 -- the line of a page with too many bytes
 pub long_line : (fields : List Field) (name bytes : List ℕ) (made : Result Line NoMemory) → most_page < length bytes

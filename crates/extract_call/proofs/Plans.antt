@@ -48,16 +48,6 @@ pub done_keeps : (d : Dialect) (text : List ℕ) (made : Result Line NoMemory)
 done_keeps d text (Ok l) keeps done list h = keeps done list h
 done_keeps d text (Err e) keeps done list h = absurd done
 
--- what is said of the words' selector is said of any selector that they give
-pub of_command : (d e : Dialect) (text other : List ℕ) → Some (css d text) ≡ Some (css e other)
-    → {Ends : Type 0} → ((list : SelectorList) → Accepts text list → Ends → IsKept d list)
-    → (list : SelectorList) → Accepts other list → Ends → IsKept e list
-of_command d e text other says {Ends = Ends} keeps =
-    let one : d ≡ e = (let y = says in cc) in
-    let two : text ≡ other = (let y = says in cc) in
-    let P : Dialect → List ℕ → Type 0 = λ x t. (list : SelectorList) → Accepts t list → Ends → IsKept x list in
-    subst (λ (x : Dialect). P x other) one (subst (λ (t : List ℕ). P d t) two keeps)
-
 -- ---- what follows from what the crates below promise
 
 module _ (below : Below) where
