@@ -80,7 +80,7 @@ pub enum SelectorFault {
     UnknownPseudo,
     /// A pseudo-element that is not known, or out of its place.
     PseudoElement,
-    /// A choice inside eight others.
+    /// A choice inside eight others, or a `:has` inside another.
     Nested,
     /// A class that counts by type, without a type.
     OfType,
