@@ -1,6 +1,9 @@
 //! The program `extract`: compiles CSS selectors to XPath, and runs scripts of queries on pages.
 #![tactic(auto)]
 
+ghost use Rattle.std.specs.Prelude.{◌≡◌};
+ghost use Rattle.extract_main.specs.Messages as messages;
+
 use extract_call::{Status, extract};
 use io_edges::{FilePages, StdoutSink};
 use std::env;
@@ -40,15 +43,22 @@ fn status_of(rt: &HostRuntime) -> Status {
     }
 }
 
-fn main(rt: HostRuntime) -> ExitCode {
-    let status = status_of(&rt);
-    let message = match status {
+/// What is said on standard error of a run that ended so: nothing where all was written.
+fn message_of(status: Status) -> &'static str
+    ensures { result.now ≡ messages.message_of status }
+{
+    match status {
         Status::Done | Status::Refused => "",
         Status::Usage => "extract: usage",
         Status::Memory => "extract: no memory",
         Status::ReadFault => "extract: read fault",
         Status::WriteFault => "extract: write fault",
-    };
+    }
+}
+
+fn main(rt: HostRuntime) -> ExitCode {
+    let status = status_of(&rt);
+    let message = message_of(status);
     if !message.is_empty() {
         let _ = rt.eprintln(message);
     }
