@@ -17,8 +17,6 @@ mod pieces;
 mod places;
 mod refusals;
 mod simples;
-#[cfg(test)]
-mod tests;
 mod values;
 
 pub use laws::{choices_without_depth, one_list_or_fault};

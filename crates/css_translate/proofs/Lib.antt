@@ -1,6 +1,5 @@
 pub mod Further
 pub mod Pushes
-pub mod Rows
 pub mod Said
 pub mod TextLemmas
 pub mod WrittenRuns

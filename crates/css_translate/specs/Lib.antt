@@ -1,4 +1,3 @@
 pub mod Inner
 pub mod Read
-pub mod Rows
 pub mod Runs

@@ -12,8 +12,6 @@ mod pseudo;
 mod pushing;
 mod simples;
 mod steps;
-#[cfg(test)]
-mod tests;
 mod texts;
 
 pub use literals::literal;

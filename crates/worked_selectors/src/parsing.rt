@@ -1,4 +1,5 @@
-use crate::parse_selectors;
+//! Which texts are lists of selectors, and why a text is none.
+use css_parser::parse_selectors;
 use css_selectors::{Link, Test};
 use std::alloc::Global;
 use std::test::Fail;
