@@ -128,9 +128,6 @@ pub record SitsIn (text : List ℕ) (t : CssToken) : Type 0 where
 abbrev pub most_selector : ℕ
 most_selector = 16384
 
-abbrev pub most_bytes : ℕ
-most_bytes = most_selector
-
 -- the tokens spell the text
 pub record Lexes (text : List ℕ) (tokens : List CssToken) : Type 0 where
   pub fits : length text ≤ most_selector

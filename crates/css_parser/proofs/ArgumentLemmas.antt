@@ -17,7 +17,7 @@ use borrow.Author.Count.{below_more}
 use Rattle.css_parser.specs.Places.{code, code_at, stands}
 use Rattle.css_parser.proofs.PlaceLemmas.{shown}
 use Rattle.css_parser.specs.Simples.{written, written_up_to, is_opening, is_closing, is_more_closed, balanced_close}
-use Rattle.css_parser.specs.Reading.{AreInside, IsOpen, depth_by, depth_behind}
+use Rattle.css_parser.specs.inner.Reading.{AreInside, IsOpen, depth_by, depth_behind}
 
 none_between : {A : Type 0} (s : List A) (i : ℕ) → slice_range s i i ≡ []
 none_between s i = ap (λ n. take n (drop i s)) (let e : i - i ≡ 0 = omega arith in e)

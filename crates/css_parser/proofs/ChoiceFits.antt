@@ -18,7 +18,7 @@ use Rattle.css_parser.specs.declared.pieces.Member.{Member, out-Member}
 use Rattle.css_parser.specs.declared.pieces.ListRead.{ListRead}
 use Rattle.css_parser.specs.Simples.{piece_at}
 use Rattle.css_parser.specs.Choices.{is_has, word_at, choice_read, deep_read, deep, simple_by, members}
-use Rattle.css_parser.specs.Reading.{EndsList}
+use Rattle.css_parser.specs.inner.Reading.{EndsList}
 use Rattle.css_parser.specs.Refusals.{is_none, members_refusal}
 use Rattle.css_parser.specs.Values.{simple_of, only_of, any, has, negation, choice_value, member_value, compound_of, part_of, relative_of, compounds_in}
 use Rattle.css_parser.proofs.RefusalLemmas.{choice_refusal}

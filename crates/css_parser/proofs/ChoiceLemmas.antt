@@ -23,7 +23,7 @@ use Rattle.css_parser.specs.Places.{code_at, stands, skip}
 use Rattle.css_parser.specs.Simples.{element, piece_at}
 use Rattle.css_parser.specs.Links.{combinator, sign}
 use Rattle.css_parser.specs.Choices.{word_at, form_read, one_read, choice_read, deep_read, is_has, Reader, Forms, forms_by, forms_from, inner_read, some_read, inner_with, parts_by, alone, joined, member_of, front, inner_at, further_with, further_at, parts_from, member_at, list_by, list_from, members, choice_with, deep_by, deep, simple_by, simple}
-use Rattle.css_parser.specs.Reading.{IsBehind, EndsElement, Ends, EndsForm, EndsInner, EndsInners, EndsList, EndsLink, IsFormsRead, deep_end, IsTable}
+use Rattle.css_parser.specs.inner.Reading.{IsBehind, EndsElement, Ends, EndsForm, EndsInner, EndsInners, EndsList, EndsLink, IsFormsRead, deep_end, IsTable}
 use Rattle.css_parser.proofs.PlaceLemmas.{skip_order, skip_within, stands_within}
 use Rattle.css_parser.proofs.Endings.{element_ends, piece_ends, combinator_ends}
 

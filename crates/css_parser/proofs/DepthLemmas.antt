@@ -20,8 +20,8 @@ use Rattle.css_parser.specs.Places.{stands, skip}
 use Rattle.css_parser.specs.Simples.{element, piece_at}
 use Rattle.css_parser.specs.Links.{combinator, sign}
 use Rattle.css_parser.specs.Choices.{is_has, word_at, one_read, choice_read, deep_read, deep, choice_with, simple_by, Reader, forms_by, forms_from, some_read, inner_with, parts_by, alone, joined, front, inner_at, further_with, further_at, parts_from, member_at, list_by, list_from, members}
-use Rattle.css_parser.specs.Reading.{EndsForm, EndsElement, EndsInner, EndsInners, EndsLink}
-use Rattle.css_parser.specs.Refusals.{is_empty}
+use Rattle.css_parser.specs.inner.Reading.{EndsForm, EndsElement, EndsInner, EndsInners, EndsLink}
+use Rattle.text_base.specs.Strings.{is_empty}
 use Rattle.css_parser.specs.Laws.{end_of, IsReadAlike, KeepsEnds}
 use Rattle.css_parser.proofs.PlaceLemmas.{skip_order, skip_within, stands_within}
 use Rattle.css_parser.proofs.Endings.{element_ends, combinator_ends}

@@ -16,7 +16,7 @@ use Rattle.css_parser.specs.Places.{code_at, stands, skip, is_name, is_word, is_
 use Rattle.css_parser.specs.Names.{nth_called}
 use Rattle.css_parser.specs.Simples as spec
 use Rattle.css_parser.specs.Links.{combinator}
-use Rattle.css_parser.specs.Reading.{IsBehind, EndsElement, Ends, EndsLink}
+use Rattle.css_parser.specs.inner.Reading.{IsBehind, EndsElement, Ends, EndsLink}
 use Rattle.css_parser.proofs.PlaceLemmas.{code_within, skip_order}
 
 both_true : (a b : Bool) → (a && b) ≡ true → (a ≡ true) × (b ≡ true)

@@ -6,7 +6,7 @@ use Rattle.css_selectors.specs.declared.selector.Link.{Link}
 use Rattle.css_selectors.specs.declared.selector.Link.TheVariants as link
 use Rattle.css_lexer.specs.declared.tokens.CssKind.TheVariants as kind
 use Rattle.css_lexer.specs.declared.tokens.CssToken.{CssToken}
-use Rattle.css_lexer.specs.Tokens.{Lexes, most_bytes}
+use Rattle.css_lexer.specs.Tokens.{Lexes, most_selector}
 use Rattle.css_lexer.proofs.Lexing.{lexes_or_stops}
 use Rattle.css_selectors.specs.declared.selector.SelectorList.{SelectorList}
 use Rattle.text_base.specs.declared.reasons.SelectorFault.{SelectorFault}
@@ -24,7 +24,7 @@ use Rattle.css_parser.specs.Simples.{element}
 use Rattle.css_parser.specs.Choices.{simple}
 use Rattle.css_parser.specs.Grammar.{IsSelector, Reads}
 use Rattle.css_parser.specs.Links.{combinator}
-use Rattle.css_parser.specs.Reading.{EndsElement, EndsForm, EndsLink, IsFormsRead, IsCompoundRead, IsFurtherRead, IsWholeSelector, IsSelectorRead, IsReadUpTo}
+use Rattle.css_parser.specs.inner.Reading.{EndsElement, EndsForm, EndsLink, IsFormsRead, IsCompoundRead, IsFurtherRead, IsWholeSelector, IsSelectorRead, IsReadUpTo}
 use Rattle.css_parser.specs.Lists.{list_of}
 use Rattle.css_parser.specs.Refusals.{refusal}
 use Rattle.css_parser.specs.Selecting.{Accepts, IsRefused, IsFault}
@@ -187,14 +187,14 @@ spelled text ts h = elim (read_or_not text ts) [
   | inr none ↦ inr (fault.Syntax, record { tokens = ts; spelled = h; unread = none })
 ]
 
-short : (text : List ℕ) → length text ≤ most_bytes → IsListOrFault text
+short : (text : List ℕ) → length text ≤ most_selector → IsListOrFault text
 short text fits = elim (lexes_or_stops text fits) [
   | inl tokens ↦ spelled text tokens.0 tokens.1
   | inr stops ↦ inr (fault.Text, stops)
 ]
 
 pub each_list_or_fault : (text : List ℕ) → IsListOrFault text
-each_list_or_fault text = elim (cases_lt most_bytes (length text)) [
+each_list_or_fault text = elim (cases_lt most_selector (length text)) [
   | inl long ↦ inr (fault.Long, long)
   | inr fits ↦ short text fits
 ]

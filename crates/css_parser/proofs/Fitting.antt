@@ -12,7 +12,7 @@ use Rattle.css_selectors.specs.declared.selector.Pseudo.{Pseudo}
 use Rattle.css_selectors.specs.declared.selector.Tail.TheVariants as tail
 use Rattle.css_parser.specs.declared.pieces.Plain.{Plain}
 use Rattle.css_parser.specs.declared.pieces.Plain.TheVariants as plain
-use Rattle.css_selectors.specs.WellMade.{FitsOp, IsSmall}
+use Rattle.css_selectors.specs.WellMade.{FitsOp, IsSmall, most_number}
 use Rattle.css_parser.specs.declared.nth.Number.{Number}
 use Rattle.css_parser.specs.declared.nth.Line.{Line}
 use Rattle.css_parser.specs.declared.pieces.Piece.{Piece}
@@ -22,7 +22,7 @@ use Rattle.css_parser.specs.declared.pieces.ElementRead.{ElementRead}
 use Rattle.css_parser.specs.Places.{code_at, stands, value_at, text_at, skip, is_name, is_word, is_called}
 use Rattle.css_parser.specs.Names.{first_or_last, pseudo_called, pseudo_piece, position_piece, class_called, nth_called}
 use Rattle.css_parser.specs.Simples as s
-use Rattle.css_parser.specs.Reading.{IsBehind}
+use Rattle.css_parser.specs.inner.Reading.{IsBehind}
 use Rattle.css_parser.proofs.PlaceLemmas.{code_within, skip_order, stands_within}
 
 -- what a test keeps in itself
@@ -131,7 +131,7 @@ module _ (ts : List CssToken) where
 
   position_fits : (name : List ℕ) (o : Option Nth) → FitsPiece (position_piece name o)
   position_fits name None = pseudo_fits (pseudo_called name)
-  position_fits name (Some position) = let a : 0 ≤ 1000000 = omega arith in let b : 1 ≤ 1000000 = omega arith in (a, b)
+  position_fits name (Some position) = let a : 0 ≤ most_number = omega arith in let b : 1 ≤ most_number = omega arith in (a, b)
 
   class_fits : (name : List ℕ) → FitsPiece (class_called name)
   unfolding class_called
@@ -143,8 +143,8 @@ module _ (ts : List CssToken) where
 
   small : (n : Number) → s.is_small n ≡ true → IsSmall (s.signed n)
   small n h =
-      let fits : n.size ≤ 1000000 = grind (arith, nat_tests) in
-      cases_if n.minus (neg_ℤ (pos n.size)) (pos n.size) IsSmall (λ _. subst (λ m. m ≤ 1000000) (sym (abs_neg n.size)) fits) (λ _. fits)
+      let fits : n.size ≤ most_number = grind (arith, nat_tests) in
+      cases_if n.minus (neg_ℤ (pos n.size)) (pos n.size) IsSmall (λ _. subst (λ m. m ≤ most_number) (sym (abs_neg n.size)) fits) (λ _. fits)
 
   nth_fits : (position : Nth) (l : Line) → FitsPiece (s.nth_piece position l)
   nth_fits position l = cases_if (s.is_small l.a && s.is_small l.b) (piece.Plain (plain.Nth position (s.signed l.a) (s.signed l.b))) (piece.Large position) (FitsPiece)

@@ -20,7 +20,7 @@ use Rattle.css_parser.specs.Simples.{past_prefix, name_at, element, piece_at}
 use Rattle.css_parser.specs.Choices.{simple, form_read, simple_by, word_at}
 use Rattle.css_parser.specs.Grammar.{Simples, HasElement, past_element, IsCompound, Further, IsSelector}
 use Rattle.css_parser.specs.Links.{linked, combinator}
-use Rattle.css_parser.specs.Reading.{NoCompound, NoFurther, IsEnd, IsFormsRead, IsWholeCompound, IsLinked}
+use Rattle.css_parser.specs.inner.Reading.{NoCompound, NoFurther, IsEnd, IsFormsRead, IsWholeCompound, IsLinked}
 use Rattle.css_parser.proofs.PlaceLemmas.{skip_stop, code_end}
 
 module _ (text : List ℕ) (ts : List CssToken) where

@@ -6,7 +6,7 @@ use Rattle.css_parser.specs.declared.pieces.Compound.{Compound}
 use Rattle.css_parser.specs.declared.pieces.SelectorRead.{SelectorRead}
 use Rattle.css_parser.specs.Places.{stands, skip}
 use Rattle.css_parser.specs.Grammar.{IsSelector, Others, From, Reads}
-use Rattle.css_parser.specs.Reading.{NoCompound, IsEnd, IsWholeSelector, IsReadUpTo}
+use Rattle.css_parser.specs.inner.Reading.{NoCompound, IsEnd, IsWholeSelector, IsReadUpTo}
 use Rattle.std.specs.Prelude.{◌==◌}
 use Rattle.css_parser.proofs.PlaceLemmas.{code_end}
 use Rattle.css_parser.proofs.GrammarLemmas.{SameSelector, selector_same, end_at_comma, end_at_last}

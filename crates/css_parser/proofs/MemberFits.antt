@@ -34,7 +34,7 @@ use Rattle.css_parser.specs.Places.{stands, skip}
 use Rattle.css_parser.specs.Simples.{element}
 use Rattle.css_parser.specs.Links.{combinator, sign}
 use Rattle.css_parser.specs.Choices.{is_has, Reader, forms_from, inner_read, some_read, inner_with, parts_by, alone, joined, member_of, front, inner_at, further_with, further_at, parts_from, member_at, list_by, list_from}
-use Rattle.css_parser.specs.Reading.{EndsElement, EndsInner, EndsInners, EndsLink}
+use Rattle.css_parser.specs.inner.Reading.{EndsElement, EndsInner, EndsInners, EndsLink}
 use Rattle.css_parser.specs.Refusals.{is_none, inner_refusal, inners_refusal, member_refusal, members_refusal}
 use Rattle.css_parser.specs.Values.{alone_of, only_of, inner_value, member_value, compound_of, part_of, relative_of, compounds_in}
 use Rattle.css_parser.proofs.PlaceLemmas.{skip_order, skip_within, stands_within}

@@ -21,7 +21,7 @@ use Rattle.css_parser.specs.Places.{code_at, stands, skip}
 use Rattle.css_parser.specs.Simples.{element}
 use Rattle.css_parser.specs.Links.{combinator, sign}
 use Rattle.css_parser.specs.Choices.{is_has, Reader, forms_from, inner_read, some_read, inner_with, parts_by, alone, joined, member_of, front, inner_at, further_with, further_at, parts_from, member_at, list_by, list_from, members, simple_by}
-use Rattle.css_parser.specs.Reading.{IsBehind, EndsInner, EndsInners, IsFormsRead, Parts}
+use Rattle.css_parser.specs.inner.Reading.{IsBehind, EndsInner, EndsInners, IsFormsRead, Parts}
 use Rattle.css_parser.proofs.PlaceLemmas.{skip_order}
 use Rattle.css_parser.proofs.ChoiceLemmas.{IsSound, forms_read, some_moves, further_ends, by_ends}
 

@@ -2,7 +2,7 @@
 use Rattle.std.proofs.Common.{map, ◌≡◌, ℕ, ◌<◌, ◌≤◌, List, [], ◌∷◌, length, refl, sym, ◌∙◌, ap, subst, arith, Bool, true, false, ◌&&◌, not}
 use Rattle.std.specs.Prelude.{◌||◌, Option, Some, None, Err}
 use Rattle.css_lexer.specs.declared.tokens.CssToken.{CssToken}
-use Rattle.css_lexer.specs.Tokens.{Lexes, Stops, IsLexed, most_bytes}
+use Rattle.css_lexer.specs.Tokens.{Lexes, Stops, IsLexed, most_selector}
 use Rattle.css_lexer.proofs.EscapeLemmas.{cases_if}
 use Rattle.css_lexer.proofs.TokenLemmas.{one_list, not_both}
 use Rattle.css_selectors.specs.declared.selector.SelectorList.{SelectorList}
@@ -21,10 +21,11 @@ use Rattle.css_parser.proofs.RefusalLemmas.{roll_one, roll_choice, roll_deep, in
 use Rattle.css_parser.specs.declared.pieces.Compound.{Compound}
 use Rattle.css_parser.specs.Choices.{is_has}
 use Rattle.css_parser.specs.Grammar.{Reads}
-use Rattle.css_parser.specs.Refusals.{or_else, if_refused, is_none, is_empty, is_of_type, needs_element, piece_refusal, form_refusal, inner_refusal, inners_refusal, member_refusal, members_refusal, forms_refusal, compound_refusal, selector_refusal, refusal}
+use Rattle.text_base.specs.Strings.{is_empty}
+use Rattle.css_parser.specs.Refusals.{or_else, if_refused, is_none, is_of_type, needs_element, piece_refusal, form_refusal, inner_refusal, inners_refusal, member_refusal, members_refusal, forms_refusal, compound_refusal, selector_refusal, refusal}
 use Rattle.css_parser.specs.Lists.{list_of}
 use Rattle.css_parser.specs.Selecting.{Accepts, IsUnread, IsRefused, IsFault, IsUnlisted}
-use Rattle.css_parser.specs.Reading.{IsListRead}
+use Rattle.css_parser.specs.inner.Reading.{IsListRead}
 use Rattle.css_parser.proofs.ListLemmas.{reads_same}
 
 -- what may be refused
@@ -147,7 +148,7 @@ pub one_reading : (text : List ℕ) (list other : SelectorList) → Accepts text
 one_reading text list other h g = h.is_list ∙ ap list_of (found_same text h.tokens g.tokens h.found g.found h.spelled g.spelled h.reads g.reads) ∙ sym g.is_list
 
 data Cause (text : List ℕ) (f : SelectorFault) : Type 0 where
-  is_long : f ≡ fault.Long → most_bytes < length text → Cause text f
+  is_long : f ≡ fault.Long → most_selector < length text → Cause text f
   stops : f ≡ fault.Text → Stops text → Cause text f
   is_unread : f ≡ fault.Syntax → IsUnread text → Cause text f
   is_refused : IsRefused text f → Cause text f
@@ -165,7 +166,7 @@ cause text fault.OfType h = is_refused h
 cause text fault.Number h = is_refused h
 cause text fault.PseudoElement h = is_refused h
 
-too_long : {A : Type 0} (text : List ℕ) → most_bytes < length text → length text ≤ most_bytes → A
+too_long : {A : Type 0} (text : List ℕ) → most_selector < length text → length text ≤ most_selector → A
 too_long text h g = absurd (omega arith)
 
 not_unread : (text : List ℕ) (h : IsUnread text) (ts : List CssToken) (found : List (List Compound)) → Lexes text ts → Reads text ts found → ⊥

@@ -7,7 +7,7 @@ use Rattle.css_lexer.specs.declared.tokens.CssToken.{CssToken}
 use Rattle.css_parser.specs.declared.pieces.Word.{Word}
 use Rattle.css_parser.specs.declared.pieces.ListRead.{ListRead}
 use Rattle.css_parser.specs.Choices.{word_at, deep_read, simple_by, members}
-use Rattle.css_parser.specs.Reading.{IsChoiceEnd, IsTable}
+use Rattle.css_parser.specs.inner.Reading.{IsChoiceEnd, IsTable}
 use Rattle.css_parser.proofs.ChoiceLemmas.{deep_is}
 
 module _ (text : List ℕ) (ts : List CssToken) where

@@ -38,8 +38,9 @@ use Rattle.css_parser.specs.declared.pieces.FormRead.{FormRead}
 use Rattle.css_parser.specs.declared.pieces.Inner.{Inner, out-Inner}
 use Rattle.css_parser.specs.declared.pieces.Member.{Member, out-Member}
 use Rattle.css_parser.specs.Choices.{one_read, Reader, Forms, forms_by, forms_from}
-use Rattle.css_parser.specs.Reading.{IsBehind, EndsForm}
-use Rattle.css_parser.specs.Refusals.{or_else, if_refused, is_none, is_empty, is_of_type, needs_element, is_only_of_type, piece_refusal, form_refusal, inner_refusal, forms_refusal}
+use Rattle.css_parser.specs.inner.Reading.{IsBehind, EndsForm}
+use Rattle.text_base.specs.Strings.{is_empty}
+use Rattle.css_parser.specs.Refusals.{or_else, if_refused, is_none, is_of_type, needs_element, is_only_of_type, piece_refusal, form_refusal, inner_refusal, forms_refusal}
 use Rattle.css_parser.specs.Values.{FormValue, test_of, simple_of, piece_value, alone_in, alone_of, form_value, inner_value, member_value, only_of, form_simples, compound_of, part_of}
 use Rattle.css_parser.proofs.RefusalLemmas.{one_refusal, deep_refusal, inner_is}
 use Rattle.css_parser.proofs.Fitting.{FitsPlain, FitsPiece, Good}

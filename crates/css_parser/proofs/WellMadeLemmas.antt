@@ -5,7 +5,7 @@ use Rattle.std.proofs.lemmas.List.Elements.{All-nil, All-cons}
 use Rattle.std.proofs.lemmas.List.Sums.{sum_by-cons}
 use Rattle.css_lexer.proofs.TokenPlaces.{few_tokens}
 use Rattle.css_lexer.specs.declared.tokens.CssToken.{CssToken}
-use Rattle.css_lexer.specs.Tokens.{Lexes}
+use Rattle.css_lexer.specs.Tokens.{Lexes, most_selector}
 use Rattle.text_base.specs.declared.reasons.SelectorFault.{SelectorFault}
 use Rattle.css_selectors.specs.declared.selector.Compound as choice
 use Rattle.css_selectors.specs.declared.selector.Link.TheVariants as link
@@ -27,10 +27,11 @@ use Rattle.css_parser.specs.Places.{skip}
 use Rattle.css_parser.specs.Simples.{element}
 use Rattle.css_parser.specs.Choices.{simple}
 use Rattle.css_parser.specs.Grammar.{Simples, HasElement, past_element, IsCompound, Further, IsSelector, Others, Reads}
-use Rattle.css_parser.specs.Refusals.{if_refused, is_none, is_empty, forms_refusal, compound_refusal, selector_refusal, refusal}
+use Rattle.text_base.specs.Strings.{is_empty}
+use Rattle.css_parser.specs.Refusals.{if_refused, is_none, forms_refusal, compound_refusal, selector_refusal, refusal}
 use Rattle.css_parser.specs.Values.{form_simples}
 use Rattle.css_parser.specs.Lists.{part_of, selector_of, list_of}
-use Rattle.css_parser.specs.Reading.{EndsForm}
+use Rattle.css_parser.specs.inner.Reading.{EndsForm}
 use Rattle.css_parser.specs.Selecting.{Accepts}
 use Rattle.css_parser.proofs.PlaceLemmas.{skip_within, stands_within}
 use Rattle.css_parser.proofs.Fitting.{element_behind}
@@ -129,7 +130,7 @@ module _ (text : List ℕ) (ts : List CssToken) where
         within = more.within;
       }
 
-  selector_made : (i j : ℕ) (cs : List Compound) → length ts ≤ 16384 → i ≤ length ts → IsSelector text ts i cs j → selector_refusal cs ≡ None → made.IsSelector (selector_of cs)
+  selector_made : (i j : ℕ) (cs : List Compound) → length ts ≤ most_selector → i ≤ length ts → IsSelector text ts i cs j → selector_refusal cs ≡ None → made.IsSelector (selector_of cs)
   selector_made i j [] few l h r = absurd h
   selector_made i j (c ∷ cs) few l h r =
       let parts = neither (compound_refusal (is_empty cs) c) (selector_refusal cs) r in
@@ -148,7 +149,7 @@ module _ (text : List ℕ) (ts : List CssToken) where
       let parts = neither (compound_refusal (is_empty cs) c) (selector_refusal cs) r in
       (rest h.0 j cs (given i h.0 c l h.2).within h.3 parts.other).within
 
-  others_made : (i : ℕ) (ss : List (List Compound)) → length ts ≤ 16384 → Others text ts i ss → refusal ss ≡ None → All made.IsSelector (map selector_of ss)
+  others_made : (i : ℕ) (ss : List (List Compound)) → length ts ≤ most_selector → Others text ts i ss → refusal ss ≡ None → All made.IsSelector (map selector_of ss)
   others_made i [] few h r = All-nil made.IsSelector
   others_made i (s ∷ ss) few h r =
       let parts = neither (selector_refusal s) (refusal ss) r in
@@ -156,7 +157,7 @@ module _ (text : List ℕ) (ts : List CssToken) where
       let start = skip_within ts (i + 1) (omega arith) in
       All-cons made.IsSelector (selector_of s) (map selector_of ss) (selector_made (skip ts (i + 1)) h.0 s few start h.2 parts.first) (others_made (skip ts h.0) ss few h.3 parts.other)
 
-  list_made : (ss : List (List Compound)) → length ts ≤ 16384 → Reads text ts ss → refusal ss ≡ None → WellMade (list_of ss)
+  list_made : (ss : List (List Compound)) → length ts ≤ most_selector → Reads text ts ss → refusal ss ≡ None → WellMade (list_of ss)
   list_made [] few h r = absurd h
   list_made (s ∷ ss) few h r =
       let parts = neither (selector_refusal s) (refusal ss) r in

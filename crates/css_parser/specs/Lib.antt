@@ -6,8 +6,8 @@ pub mod Lists
 pub mod Names
 pub mod Nth
 pub mod Places
-pub mod Reading
 pub mod Refusals
 pub mod Selecting
 pub mod Simples
 pub mod Values
+pub mod inner

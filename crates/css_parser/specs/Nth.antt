@@ -1,14 +1,12 @@
 -- The argument of the pseudo-classes of position, after Selectors Level 3, section 6.6.5.1.
-use Rattle.std.specs.Prelude.{ℕ, ◌+◌, ◌*◌, ◌-◌, ◌==◌, ◌&&◌, ◌||◌, min, nat_le, nat_lt, Bool, false, if◌then◌else◌, List, length, fold, slice_index, slice_range, Option, Some, None}
-use Rattle.text_base.specs.Text.{run_end}
+use Rattle.std.specs.Prelude.{ℕ, ◌+◌, ◌==◌, ◌&&◌, ◌||◌, min, nat_lt, Bool, false, if◌then◌else◌, List, length, slice_index, slice_range, Option, Some, None}
+use Rattle.text_base.specs.Text.{digits_value, is_digit, run_end}
+use Rattle.css_selectors.specs.WellMade.{most_number}
 use Rattle.css_parser.specs.declared.nth.Number.{Number}
 use Rattle.css_parser.specs.declared.nth.Line.{Line}
 
 abbrev pub is_blank : ℕ → Bool
 is_blank b = b == 32
-
-abbrev pub is_digit : ℕ → Bool
-is_digit b = nat_le 48 b && nat_le b 57
 
 -- the first place from i on at which no space stands
 unfoldable pub past_blanks : List ℕ → ℕ → ℕ
@@ -24,7 +22,7 @@ ends s i = past_blanks s i == length s
 
 -- the number that the digits from i up to j spell, all beyond 1,000,000 taken as 1,000,001
 unfoldable pub size : List ℕ → ℕ → ℕ → ℕ
-size s i j = min 1000001 (fold (λ n d. 10 * n + (d - 48)) 0 (slice_range s i j))
+size s i j = min (1 + most_number) (digits_value (slice_range s i j))
 
 abbrev pub number : Bool → ℕ → Number
 number minus n = record { minus = minus; size = n }

@@ -1,5 +1,6 @@
 -- What is refused of a list that the grammar reads: the first from left to right.
 use Rattle.std.specs.Prelude.{ℕ, ◌&&◌, ◌||◌, not, Bool, true, false, if◌then◌else◌, List, [], ◌∷◌, Option, Some, None}
+use Rattle.text_base.specs.Strings.{is_empty}
 use Rattle.text_base.specs.declared.reasons.SelectorFault.{SelectorFault}
 use Rattle.text_base.specs.declared.reasons.SelectorFault.TheVariants as fault
 use Rattle.css_selectors.specs.declared.selector.Nth.{Nth}
@@ -58,10 +59,6 @@ piece_refusal nameless last piece.Strange = Some fault.PseudoElement
 abbrev pub or_else : Option SelectorFault → Option SelectorFault → Option SelectorFault
 or_else (Some f) other = Some f
 or_else None other = other
-
-abbrev pub is_empty : {A : Type 0} → List A → Bool
-is_empty [] = true
-is_empty (x ∷ xs) = false
 
 -- the refusal of a form, by whether no compound around it has an element's name, and whether it is the last of its selector
 abbrev pub ByPlace : Type 0

@@ -2,7 +2,7 @@
 use Rattle.std.specs.Prelude.{◌≡◌, ℕ, ◌<◌, length, List, Some, None}
 use Rattle.css_selectors.specs.declared.selector.SelectorList.{SelectorList}
 use Rattle.css_lexer.specs.declared.tokens.CssToken.{CssToken}
-use Rattle.css_lexer.specs.Tokens.{Lexes, Stops, most_bytes}
+use Rattle.css_lexer.specs.Tokens.{Lexes, Stops, most_selector}
 use Rattle.text_base.specs.declared.reasons.SelectorFault.{SelectorFault}
 use Rattle.text_base.specs.declared.reasons.SelectorFault.TheVariants as fault
 use Rattle.css_parser.specs.declared.pieces.Compound.{Compound}
@@ -36,7 +36,7 @@ pub record IsRefused (text : List ℕ) (f : SelectorFault) : Type 0 where
 -- Why the text is no list: it has more bytes than it may have, or no token begins at a place, or the grammar does not read
 -- it, or something is refused. Memory is no reason of the text.
 abbrev pub IsFault : List ℕ → SelectorFault → Type 0
-IsFault text fault.Long = most_bytes < length text
+IsFault text fault.Long = most_selector < length text
 IsFault text fault.Text = Stops text
 IsFault text fault.Syntax = IsUnread text
 IsFault text fault.XPathLong = ⊥

@@ -1,11 +1,12 @@
 -- Elements, simple selectors and pseudo-elements, each read from a place of the tokens on: what it is, and the place behind
 -- it. After the grammar of Selectors Level 3, section 10.1.
-use Rattle.std.specs.Prelude.{ℕ, ◌+◌, ◌-◌, ◌==◌, ◌&&◌, not, nat_le, nat_lt, Bool, true, false, if◌then◌else◌, List, [], ◌∷◌, drop, length, slice_range, count_by, flat_map, Option, Some, None, ℤ, pos, neg_ℤ, codes}
+use Rattle.std.specs.Prelude.{ℕ, ◌+◌, ◌-◌, ◌==◌, ◌&&◌, not, nat_le, nat_lt, Bool, if◌then◌else◌, List, [], ◌∷◌, drop, length, slice_range, count_by, flat_map, Option, Some, None, is_some, ℤ, pos, neg_ℤ, codes}
 use Rattle.std.specs.List.{prefix_len, range_with_len}
 use Rattle.css_selectors.specs.declared.selector.Nth.{Nth}
 use Rattle.css_selectors.specs.declared.selector.Op.{Op}
 use Rattle.css_selectors.specs.declared.selector.Op.TheVariants as op
 use Rattle.css_selectors.specs.declared.selector.Tail.TheVariants as tail
+use Rattle.css_selectors.specs.WellMade.{most_number}
 use Rattle.css_parser.specs.declared.pieces.Plain.TheVariants as plain
 use Rattle.css_lexer.specs.declared.tokens.CssKind.TheVariants as kind
 use Rattle.css_lexer.specs.declared.tokens.CssToken.{CssToken}
@@ -89,7 +90,7 @@ unfoldable pub written_up_to : List ℕ → List CssToken → ℕ → ℕ → Li
 written_up_to text ts i j = flat_map (written text) (slice_range ts i j)
 
 abbrev pub is_small : Number → Bool
-is_small n = nat_le n.size 1000000
+is_small n = nat_le n.size most_number
 
 abbrev pub signed : Number → ℤ
 signed n = if n.minus then neg_ℤ (pos n.size) else pos n.size
@@ -148,10 +149,6 @@ word_called name =
     else (if is_called name (codes "not") then Some word.Not
     else (if is_called name (codes "has") then Some word.Has
     else None)))
-
-abbrev pub is_some : {A : Type 0} → Option A → Bool
-is_some None = false
-is_some (Some x) = true
 
 -- a Function of this name is read by the choice alone
 abbrev pub is_choice : List ℕ → Bool

@@ -1,9 +1,9 @@
 //! What stands between a Function and its `)`.
 ghost use Rattle.std.specs.Prelude.{◌≡◌, ◌+◌, ◌^◌, ◌<◌, ◌≤◌, true, length, IfOk, IfSome, OnOk, ◌++◌};
 ghost use Rattle.css_parser.specs.Simples as spec;
-ghost use Rattle.css_parser.specs.Reading.{AreInside, Ends, depth_behind};
+ghost use Rattle.css_parser.specs.inner.Reading.{AreInside, Ends, depth_behind};
 
-use crate::nth::{Line, Number, nth};
+use crate::nth::{Line, MOST_NUMBER, Number, nth};
 use crate::pieces::{Piece, Plain, Read};
 use crate::places::{is_word, skip, stands, value_at};
 use css_lexer::{CssKind, CssToken};
@@ -68,7 +68,7 @@ fn written(
 fn is_small(number: Number) -> bool
     ensures { result ≡ spec.is_small number }
 {
-    number.size <= 1_000_000
+    number.size <= MOST_NUMBER
 }
 
 fn signed(number: Number) -> i64

@@ -2,7 +2,7 @@
 ghost use Rattle.std.specs.Prelude.{◌≡◌, ◌+◌, ◌<◌, ◌≤◌, true, length, IfOk, IfSome, Some};
 ghost use Rattle.css_parser.specs.Simples as spec;
 ghost use Rattle.css_parser.specs.Places.{value_at};
-ghost use Rattle.css_parser.specs.Reading.{Ends, EndsElement};
+ghost use Rattle.css_parser.specs.inner.Reading.{Ends, EndsElement};
 
 use crate::pieces::{ElementRead, Piece, Plain, Read};
 use crate::places::{is_name, is_word, no_text, skip, stands, value_at};

@@ -4,7 +4,7 @@
 ghost use Rattle.std.specs.Prelude.{◌≡◌, ◌+◌, ◌-◌, ◌<◌, ◌≤◌, ◌&&◌, ◌||◌, true, length, IfOk, IfSome, Some, None};
 ghost use Rattle.css_parser.specs.Choices as spec;
 ghost use Rattle.css_parser.specs.Choices.{simple_by};
-ghost use Rattle.css_parser.specs.Reading.{AreInside, Begins, EndsForm, EndsInner, EndsInners, EndsList, IsChoiceEnd, IsFormsRead, IsTable, deep_end};
+ghost use Rattle.css_parser.specs.inner.Reading.{AreInside, Begins, EndsForm, EndsInner, EndsInners, EndsList, IsChoiceEnd, IsFormsRead, IsTable, deep_end};
 
 use crate::attributes::element;
 use crate::links::{combinator, sign};

@@ -1,6 +1,6 @@
 //! Where the choices end.
 ghost use Rattle.std.specs.Prelude.{◌≡◌, ◌+◌, ◌<◌, ◌≤◌, length, IfOk, Some, None};
-ghost use Rattle.css_parser.specs.Reading.{AreInside, IsChoiceEnd, IsTable};
+ghost use Rattle.css_parser.specs.inner.Reading.{AreInside, IsChoiceEnd, IsTable};
 
 use crate::choices::{members, word_at};
 use css_lexer::CssToken;

@@ -2,7 +2,7 @@
 ghost use Rattle.std.specs.Prelude.{◌≡◌, ◌++◌, ◌∷◌, [], ◌<◌, ◌≤◌, length, IfOk, Some, None};
 ghost use Rattle.css_parser.specs.Grammar as spec;
 ghost use Rattle.css_parser.specs.Simples.{element as element_at};
-ghost use Rattle.css_parser.specs.Reading.{AreInside, IsTable, IsCompoundRead, IsFurtherRead, IsSelectorRead, IsListRead};
+ghost use Rattle.css_parser.specs.inner.Reading.{AreInside, IsTable, IsCompoundRead, IsFurtherRead, IsSelectorRead, IsListRead};
 
 use crate::attributes::element;
 use crate::choices::forms;

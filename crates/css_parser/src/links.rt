@@ -1,7 +1,7 @@
 //! Combinators, after the grammar of Selectors Level 3, section 10.1.
 ghost use Rattle.std.specs.Prelude.{◌≡◌, ◌≤◌, length};
 ghost use Rattle.css_parser.specs.Links as links;
-ghost use Rattle.css_parser.specs.Reading.{EndsLink};
+ghost use Rattle.css_parser.specs.inner.Reading.{EndsLink};
 
 use crate::pieces::LinkRead;
 use crate::places::{skip, stands};

@@ -1,6 +1,10 @@
 //! The argument of the pseudo-classes of position, after Selectors Level 3, section 6.6.5.1.
 ghost use Rattle.std.specs.Prelude.{◌≡◌, ℕ, ◌+◌, ◌<◌, ◌≤◌, ◌^◌, true, false, length, slice_index};
+ghost use Rattle.css_selectors.specs.WellMade.{most_number};
+ghost use Rattle.text_base.specs.Text.{is_digit};
 ghost use Rattle.css_parser.specs.Nth as spec;
+
+use text_base::is_digit;
 
 /// A number with a sign, all beyond 1,000,000 in size taken as 1,000,001.
 #[derive(Clone, Copy)]
@@ -16,7 +20,11 @@ pub(crate) struct Line {
     pub(crate) b: Number,
 }
 
-const MOST: u32 = 1_000_001;
+/// The most that a number may be in size.
+pub(crate) const MOST_NUMBER: u32 = 1_000_000;
+
+/// What every number beyond it is taken as.
+const BEYOND: u32 = MOST_NUMBER + 1;
 
 /// The byte at a place, or 0 past the end.
 fn byte_of(s: &[u8], at: usize) -> u8
@@ -24,12 +32,6 @@ fn byte_of(s: &[u8], at: usize) -> u8
     ensures within { 0 < result → at < length s.now }
 {
     if at < s.len() { s[at] } else { 0 }
-}
-
-fn is_digit(byte: u8) -> bool
-    ensures { result ≡ spec.is_digit byte }
-{
-    byte >= b'0' && byte <= b'9'
 }
 
 fn is_sign(byte: u8) -> bool
@@ -60,7 +62,7 @@ fn past_digits(s: &[u8], from: usize) -> usize
     ensures end { result ≡ spec.past_digits s.now from }
     ensures order { from ≤ result }
     ensures within { result ≤ length s.now }
-    ensures digits { (k : ℕ) → from ≤ k → k < result → spec.is_digit (slice_index s.now k) ≡ true }
+    ensures digits { (k : ℕ) → from ≤ k → k < result → is_digit (slice_index s.now k) ≡ true }
 {
     let mut at = from;
     while at < s.len() && is_digit(s[at]) {
@@ -74,14 +76,14 @@ fn past_digits(s: &[u8], from: usize) -> usize
 fn size(s: &[u8], from: usize, to: usize) -> u32
     requires order { from ≤ to }
     requires within { to ≤ length s.now }
-    requires digits { (k : ℕ) → from ≤ k → k < to → spec.is_digit (slice_index s.now k) ≡ true }
+    requires digits { (k : ℕ) → from ≤ k → k < to → is_digit (slice_index s.now k) ≡ true }
     ensures value { result ≡ spec.size s.now from to }
-    ensures capped { result ≤ 1000001 }
+    ensures capped { result ≤ 1 + most_number }
 {
     let mut value = 0;
     let mut at = from;
     while at < to {
-        value = (value * 10 + (s[at] as u32 - 48)).min(MOST);
+        value = (value * 10 + (s[at] as u32 - 48)).min(BEYOND);
         at += 1;
     }
     value
@@ -166,7 +168,7 @@ fn behind_n(s: &[u8], at: usize) -> Option<Number>
 fn factor(minus: bool, s: &[u8], from: usize, to: usize) -> Number
     requires order { from ≤ to }
     requires within { to ≤ length s.now }
-    requires digits { (k : ℕ) → from ≤ k → k < to → spec.is_digit (slice_index s.now k) ≡ true }
+    requires digits { (k : ℕ) → from ≤ k → k < to → is_digit (slice_index s.now k) ≡ true }
     ensures { result ≡ spec.factor minus s.now from to }
 {
     if from == to {

@@ -2,7 +2,7 @@
 ghost use Rattle.std.specs.Prelude.{◌≡◌, ◌+◌, ◌<◌, ◌≤◌, true, length, IfOk};
 ghost use Rattle.css_parser.specs.Simples as spec;
 ghost use Rattle.css_parser.specs.Names.{nth_called};
-ghost use Rattle.css_parser.specs.Reading.{AreInside, Ends};
+ghost use Rattle.css_parser.specs.inner.Reading.{AreInside, Ends};
 
 use crate::arguments::{
     attr_argument, contains_argument, lang_argument, nth_argument, other_argument,

@@ -46,9 +46,12 @@ FitsPseudo around pseudo.Checked = Unit
 FitsPseudo around pseudo.Enabled = Unit
 FitsPseudo around pseudo.Disabled = Unit
 
--- a number of `an+b` is at most 1,000,000 in size
+-- the most that a number of `an+b` may be in size
+abbrev pub most_number : ℕ
+most_number = 1000000
+
 abbrev pub IsSmall : ℤ → Type 0
-IsSmall a = nat_abs a ≤ 1000000
+IsSmall a = nat_abs a ≤ most_number
 
 -- the name that counts inside a compound: its own, or that of the innermost compound around it that has one
 abbrev pub innermost : Option (List ℕ) → Option (List ℕ) → Option (List ℕ)

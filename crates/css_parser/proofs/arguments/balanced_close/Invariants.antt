@@ -1,5 +1,5 @@
 use Rattle.std.proofs.Common.{◌+◌, ◌-◌, ◌≤◌, length}
-use Rattle.css_parser.specs.Reading.{IsOpen}
+use Rattle.css_parser.specs.inner.Reading.{IsOpen}
 use Rattle.css_parser.proofs.arguments.balanced_close.Given as goal
 
 abbrev pub invariant-loop-at : goal.invariant-loop-at

@@ -1,6 +1,6 @@
 use Rattle.std.proofs.Common.{sym, ◌∙◌, subst, arith}
 use Rattle.std.specs.Prelude.{Some}
-use Rattle.css_parser.specs.Reading.{EndsForm, EndsInner}
+use Rattle.css_parser.specs.inner.Reading.{EndsForm, EndsInner}
 use Rattle.css_parser.proofs.ChoiceLemmas.{not_empty, deep_entry_ends}
 use Rattle.css_parser.proofs.MemberLemmas as lemma
 use Rattle.css_parser.proofs.choices.+reading.Goals as goal

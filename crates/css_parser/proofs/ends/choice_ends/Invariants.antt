@@ -1,5 +1,5 @@
 use Rattle.std.proofs.Common.{◌≡◌, ◌+◌, length}
-use Rattle.css_parser.specs.Reading.{IsTable}
+use Rattle.css_parser.specs.inner.Reading.{IsTable}
 use Rattle.css_parser.proofs.ends.choice_ends.Given as goal
 
 abbrev pub invariant-loop-at : goal.invariant-loop-at

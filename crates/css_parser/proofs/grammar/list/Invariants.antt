@@ -1,5 +1,5 @@
 use Rattle.std.proofs.Common.{◌-◌, ◌≤◌, length}
-use Rattle.css_parser.specs.Reading.{IsReadUpTo}
+use Rattle.css_parser.specs.inner.Reading.{IsReadUpTo}
 use Rattle.css_parser.proofs.grammar.list.Given as goal
 
 abbrev pub invariant-loop-read : goal.invariant-loop-read

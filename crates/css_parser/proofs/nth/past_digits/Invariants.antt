@@ -1,6 +1,5 @@
 use Rattle.std.proofs.Common.{◌≡◌, ℕ, ◌-◌, ◌≤◌, ◌<◌, true, length, get_or}
-use Rattle.css_parser.specs.Nth.{is_digit}
-use Rattle.text_base.specs.Text.{run_end}
+use Rattle.text_base.specs.Text.{is_digit, run_end}
 use Rattle.css_parser.proofs.nth.past_digits.Given as goal
 
 abbrev pub invariant-loop-at : goal.invariant-loop-at

@@ -1,4 +1,5 @@
-use Rattle.std.proofs.Common.{◌≡◌, ◌-◌, ◌≤◌}
+use Rattle.std.proofs.Common.{◌≡◌, ◌+◌, ◌-◌, ◌≤◌}
+use Rattle.css_selectors.specs.WellMade.{most_number}
 use Rattle.css_parser.specs.Nth.{size}
 use Rattle.css_parser.proofs.nth.size.Given as goal
 
@@ -7,7 +8,7 @@ invariant-loop-at l = record {
   order : l.fn.from ≤ l.at;
   within : l.at ≤ l.to;
   so_far : l.value ≡ size l.s l.fn.from l.at;
-  capped : l.value ≤ 1000001;
+  capped : l.value ≤ 1 + most_number;
 }
 
 abbrev pub decreases-loop-at : goal.decreases-loop-at
