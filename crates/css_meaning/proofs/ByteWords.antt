@@ -1,49 +1,23 @@
 -- Words and lower case on the bytes of texts.
-use Rattle.std.proofs.Common.{◌≡◌, ℕ, suc, ◌<◌, ◌≤◌, Bool, cond, List, [], ◌∷◌, ◌++◌, length, map, get_or, refl, sym, ◌∙◌, ap, arith, encode_utf8_all, inl, inr}
+use Rattle.std.proofs.Common.{◌≡◌, ℕ, suc, ◌<◌, ◌≤◌, Bool, List, [], ◌∷◌, ◌++◌, length, map, get_or, refl, sym, ◌∙◌, ap, arith, encode_utf8_all, inl, inr}
+use Rattle.std.specs.Cmp.{both_ways}
 use Rattle.std.specs.Char.{to_ascii_lowercase}
-use Rattle.std.specs.List.{slice_split, onto_first}
-use Rattle.std.specs.Prelude.{encode_utf8, ◌||◌, codes, filter}
+use Rattle.std.specs.Prelude.{encode_utf8, ◌||◌, codes}
 use Rattle.std.specs.Str.{chars, IsUtf8, bytes_eq}
 use Rattle.std.proofs.lemmas.List.{append-nil}
 use Rattle.std.proofs.lemmas.Bool.{cases_lt}
 use Rattle.std.proofs.lemmas.Bool.Decides.{nat_tests}
-use Rattle.std.proofs.lemmas.Str.{encode_ascii, encodes-chars, inside_one, length-encode, len_utf8_bounds, encodes-append}
+use Rattle.std.proofs.lemmas.Str.{encode_ascii, encodes-chars, inside_one, encodes-append}
 use Rattle.std.proofs.lemmas.Str.Ascii.{lowercase_ascii}
-use Rattle.text_base.specs.Strings.{starts_with, is_empty, is_among, put, pieces, not_empty, runs}
+use Rattle.text_base.specs.Strings.{starts_with, is_among, runs}
 use Rattle.text_base.specs.Text.{is_space5, IsNarrow}
-use Rattle.text_base.specs.Words.{is_some, words_by}
-use Rattle.text_base.proofs.WordLemmas.{words_bytes}
+use Rattle.text_base.specs.Words.{words_by}
+use Rattle.text_base.proofs.ByteParts.{same_bytes, starts_bytes}
+use Rattle.text_base.proofs.WordLemmas.{words_bytes, words_runs}
 use Rattle.css_meaning.specs.Attributes.{word_test, dash_test, lang_test}
-use Rattle.css_meaning.proofs.ByteParts.{bool_same, same_bytes, starts_bytes, some_empty}
 use Rattle.css_meaning.proofs.Values.{word_is_run, run_means}
 
--- ---- nothing
-
-empty_bytes : (w : List ℕ) → is_empty (encode_utf8_all w) ≡ is_empty w
-empty_bytes [] = refl
-empty_bytes (c ∷ w) = some_empty (encode_utf8 c) (encode_utf8_all w) (omega (arith, length-encode c, (len_utf8_bounds c).0))
-
-pub empty_chars : (x : List ℕ) → IsUtf8 x → is_empty x ≡ is_empty (chars x)
-empty_chars x utf8 = ap is_empty (sym (encodes-chars x utf8)) ∙ empty_bytes (chars x)
-
 -- ---- words
-
-put_first : (c : ℕ) (ws : List (List ℕ)) → onto_first c ws ≡ put c ws
-put_first c [] = refl
-put_first c (w ∷ ws) = refl
-
-split_pieces : (p : ℕ → Bool) (x : List ℕ) → slice_split p x ≡ pieces p x
-split_pieces p [] = refl
-split_pieces p (c ∷ x) =
-    ap (λ ws. cond (p c) ([] ∷ ws) (onto_first c ws)) (split_pieces p x) ∙ ap (cond (p c) ([] ∷ pieces p x)) (put_first c (pieces p x))
-
-some_kept : (ws : List (List ℕ)) → filter is_some ws ≡ not_empty ws
-some_kept [] = refl
-some_kept ([] ∷ ws) = some_kept ws
-some_kept ((c ∷ w) ∷ ws) = ap (λ vs. (c ∷ w) ∷ vs) (some_kept ws)
-
-pub words_runs : (p : ℕ → Bool) (x : List ℕ) → words_by p x ≡ runs p x
-words_runs p x = ap (filter is_some) (split_pieces p x) ∙ some_kept (pieces p x)
 
 among_bytes : (v : List ℕ) (ws : List (List ℕ)) → is_among (encode_utf8_all v) (map encode_utf8_all ws) ≡ is_among v ws
 among_bytes v [] = refl
@@ -54,7 +28,7 @@ space5_ascii b past = grind (arith, nat_tests)
 
 -- the words have characters, and no white space
 word_among : (x v : List ℕ) → word_test x v ≡ is_among v (runs is_space5 x)
-word_among x v = bool_same _ _ (λ h. (run_means is_space5 x v).1 ((word_is_run x v).0 h)) (λ h. (word_is_run x v).1 ((run_means is_space5 x v).0 h))
+word_among x v = both_ways _ _ (λ h. (run_means is_space5 x v).1 ((word_is_run x v).0 h)) (λ h. (word_is_run x v).1 ((run_means is_space5 x v).0 h))
 
 pub word_chars : (x v : List ℕ) → IsUtf8 x → IsUtf8 v → is_among v (words_by is_space5 x) ≡ word_test (chars x) (chars v)
 word_chars x v utf8 other =

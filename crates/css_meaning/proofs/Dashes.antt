@@ -6,7 +6,7 @@ use Rattle.std.specs.Str.{chars, IsUtf8}
 use Rattle.std.proofs.lemmas.List.{length-map}
 use Rattle.text_base.specs.Strings.{starts_with}
 use Rattle.css_meaning.specs.Attributes.{dash_test, lang_test}
-use Rattle.css_meaning.proofs.ByteParts.{starts_chars}
+use Rattle.text_base.proofs.ByteParts.{starts_chars}
 use Rattle.css_meaning.proofs.ByteWords.{lower, dash_chars, lang_chars}
 use Rattle.css_meaning.proofs.TextTests.{dashed, dash_at}
 

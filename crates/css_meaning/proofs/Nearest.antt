@@ -2,6 +2,7 @@
 use Rattle.std.proofs.Common.{◌≡◌, ◌≢◌, sym, ◌∙◌, ap, subst, ℕ, ◌<◌, ◌≤◌, Bool, true, false, ◌&&◌, ◌||◌, not, List, [], ◌∷◌, length, eqb, ltb, arith, ◌⊎◌, inl, inr, Option, Some, None, lt-ltb}
 use Rattle.std.specs.Option.{option_to_list}
 use Rattle.std.specs.List.{list_any, range_with_len}
+use Rattle.std.specs.Cmp.{both_ways}
 use Rattle.std.proofs.lemmas.Bool.{and_left, and_right, or_left, or_right, or_from, eq-eqb, ne_eqb, cases_lt, and_parts, false_from_ne_true, ltb-true}
 use Rattle.doc_model.specs.Document.{Document, row, below, IsDocument}
 use Rattle.doc_model.proofs.Below.{small, not_up}
@@ -10,7 +11,6 @@ use Rattle.css_selectors.specs.declared.selector.Dialect.{Dialect}
 use Rattle.css_meaning.specs.Attributes.{has_value, lang_test}
 use Rattle.css_meaning.specs.Language.{lang_name, gives_language, is_nearest_language, lang_holds}
 use Rattle.css_meaning.specs.inner.Nearest.{says}
-use Rattle.css_meaning.proofs.ByteParts.{bool_same}
 use Rattle.css_meaning.proofs.Finding as finding
 use Rattle.css_meaning.proofs.FoundValues.{named, value_found}
 use Rattle.css_meaning.proofs.ListTests.{or_false}
@@ -21,7 +21,7 @@ over doc y e (inr b) = or_right _ _ b
 
 -- one number passes alone, or none
 only_one : (q : ℕ → Bool) (n y : ℕ) → y < n → ((k : ℕ) → k < n → k ≢ y → q k ≡ false) → list_any q (range_with_len 0 n) ≡ q y
-only_one q n y l others = bool_same _ _
+only_one q n y l others = both_ways _ _
     (λ h.
     let w = finding.found q 0 n h in
     elim (eq_or_not w.0 y) [ inl e ↦ ap q (sym e) ∙ w.3 | inr ne ↦ absurd (clash (q w.0) w.3 (others w.0 (omega arith) ne)) ])

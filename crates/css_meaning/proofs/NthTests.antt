@@ -1,12 +1,12 @@
 -- The positions that `an+b` names, by a remainder.
 use Rattle.std.proofs.Common.{◌≡◌, ℕ, zero, suc, ◌*◌, ◌/◌, ◌%◌, true, false, eqb, ap, sym, ◌∙◌, arith}
 use Rattle.std.proofs.Math.Nat.{mul-mod_right}
+use Rattle.std.specs.Cmp.{both_ways}
 use Rattle.std.proofs.lemmas.Bool.{eqb-true, eq-eqb, false_from_ne_true}
 use Rattle.std.proofs.lemmas.Int.{ints}
 use Rattle.std.specs.Prelude.{ℤ, pos, negsuc, ◌+ℤ◌, ◌-ℤ◌, ◌*ℤ◌, ◌<ℤ◌, ◌≤ℤ◌}
 use Rattle.std.specs.Int.RustNames.{unsigned_abs}
 use Rattle.css_meaning.specs.Nth.{is_nth}
-use Rattle.css_meaning.proofs.ByteParts.{bool_same}
 use Rattle.css_meaning.proofs.Positions.{nth_law}
 
 -- the gap is a multiple of the step
@@ -32,7 +32,7 @@ upwards (pos zero) b p gap step less some far size = absurd (omega (arith, ints,
 upwards (negsuc k) b p gap step less some far size = absurd (omega (arith, ints, some))
 upwards (pos (suc k)) b p gap step less some far size =
     ap (λ s. eqb (gap % s) 0) size
-    ∙ bool_same _ _
+    ∙ both_ways _ _
     (λ h. (nth_law (pos (suc k)) b p).1 (gap / suc k, up_to k b p gap (gap / suc k) less far (divided k gap h)))
     (λ h. let w = (nth_law (pos (suc k)) b p).0 h in multiple k gap w.0 (up_from k b p gap w.0 less far w.1))
 
@@ -55,7 +55,7 @@ pub downwards : (a b : ℤ) (p gap step : ℕ) → pos p ≤ℤ b → a <ℤ pos
 downwards (pos k) b p gap step more some far size = absurd (omega (arith, ints, some))
 downwards (negsuc k) b p gap step more some far size =
     ap (λ s. eqb (gap % s) 0) size
-    ∙ bool_same _ _
+    ∙ both_ways _ _
     (λ h. (nth_law (negsuc k) b p).1 (gap / suc k, down_to k b p gap (gap / suc k) more far (divided k gap h)))
     (λ h. let w = (nth_law (negsuc k) b p).0 h in multiple k gap w.0 (down_from k b p gap w.0 more far w.1))
 

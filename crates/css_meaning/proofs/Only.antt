@@ -2,6 +2,7 @@
 use Rattle.std.proofs.Common.{◌≡◌, refl, ℕ, suc, Bool, true, false, ◌&&◌, ◌||◌, cond, eqb, ltb, ne_eqb, List, [], ◌∷◌, length, filter, ap, sym, ◌∙◌, arith}
 use Rattle.std.specs.Prelude.{not, pos}
 use Rattle.std.specs.List.{list_any}
+use Rattle.std.specs.Cmp.{both_ways}
 use Rattle.std.proofs.lemmas.Bool.{eqb-true, eq-eqb}
 use Rattle.std.proofs.lemmas.Bool.Decides.{nat_tests}
 use Rattle.std.proofs.lemmas.Int.{ints}
@@ -11,11 +12,6 @@ use Rattle.css_meaning.specs.Only.{OnlyLaws}
 use Rattle.css_meaning.specs.Siblings.{is_sibling, is_of_type, is_only, count_before, count_after}
 use Rattle.css_meaning.proofs.ListTests.{and_or_left, any_same, any_or}
 use Rattle.css_meaning.proofs.Positions.{nth_law}
-
-bool_same : (a b : Bool) → (a ≡ true → b ≡ true) → (b ≡ true → a ≡ true) → a ≡ b
-bool_same true b f g = sym (f refl)
-bool_same false true f g = g refl
-bool_same false false f g = refl
 
 apart : (y e : ℕ) → not (eqb y e) ≡ (ltb y e || ltb e y)
 apart y e = grind (arith, nat_tests)
@@ -36,7 +32,7 @@ count_none q (x ∷ xs) =
 -- the position 1 is that of none before
 pub first_position : (n : ℕ) → is_nth (pos 0) (pos 1) (suc n) ≡ eqb n 0
 first_position n =
-    bool_same _ _
+    both_ways _ _
     (λ h. let w = (nth_law (pos 0) (pos 1) (suc n)).0 h in let none : n ≡ 0 = omega (arith, ints, w.1) in eq-eqb n 0 none)
     (λ h. let none : n ≡ 0 = eqb-true n 0 h in (nth_law (pos 0) (pos 1) (suc n)).1 (0, omega (arith, ints, none)))
 

@@ -5,8 +5,8 @@ use Rattle.std.proofs.lemmas.Bool.{and_left, and_right, and_from, cond-true, con
 use Rattle.text_base.specs.Strings.{starts_with, contains}
 use Rattle.css_meaning.specs.inner.TextPlaces.{begins_in}
 use Rattle.css_meaning.proofs.ListTests.{or_false}
-use Rattle.css_meaning.proofs.ByteParts.{starts_bytes}
-use Rattle.css_meaning.proofs.TextTests.{no_part}
+use Rattle.text_base.proofs.ByteParts.{starts_bytes}
+use Rattle.text_base.proofs.TextTests.{no_part}
 use lib.Utf8.{encode}
 
 -- ---- the bytes of one character

@@ -19,7 +19,7 @@ use Rattle.doc_model.proofs.Filters.{upto, upto_none}
 use Rattle.doc_model.proofs.Texts.{is_below, texts_all}
 use Rattle.css_meaning.specs.inner.TextPlaces.{text_at, texts_from, bytes_from, begins_in}
 use Rattle.css_meaning.proofs.ListTests.{and_assoc}
-use Rattle.css_meaning.proofs.TextTests.{no_part}
+use Rattle.text_base.proofs.TextTests.{no_part}
 use Rattle.css_meaning.proofs.TextBytes.{contains_parts, contains_bytes}
 
 -- ---- a piece and what is wanted

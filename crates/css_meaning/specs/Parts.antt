@@ -2,6 +2,7 @@
 use Rattle.std.specs.Prelude.{◌≡◌, ◌≢◌, ℕ, Bool, true, false, List, [], ◌∷◌, ◌++◌, ◌↔◌}
 use Rattle.std.specs.List.{list_any}
 use Rattle.text_base.specs.Strings.{starts_with, ends_with, contains}
+use Rattle.text_base.specs.Parts.{Begins, Ends, Occurs}
 use Rattle.text_base.specs.Text.{is_space5}
 use Rattle.css_meaning.specs.Attributes.{word_test}
 
@@ -14,20 +15,6 @@ last_passes p none (c ∷ a) = last_passes p (p c) a
 abbrev pub first_passes : (ℕ → Bool) → List ℕ → Bool
 first_passes p [] = true
 first_passes p (c ∷ r) = p c
-
--- x is v and what follows
-pub record Begins (x v : List ℕ) : Type 0 where
-  pub after : List ℕ
-  pub is : x ≡ v ++ after
-
-pub record Ends (x v : List ℕ) : Type 0 where
-  pub ahead : List ℕ
-  pub is : x ≡ ahead ++ v
-
-pub record Occurs (x v : List ℕ) : Type 0 where
-  pub ahead : List ℕ
-  pub after : List ℕ
-  pub is : x ≡ ahead ++ (v ++ after)
 
 -- v is a part of x that is not empty and has no character that passes the test, and no longer such part of x goes
 -- round it: before it stands nothing or a character that passes, and after it too

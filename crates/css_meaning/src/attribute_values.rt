@@ -4,11 +4,9 @@ ghost use Rattle.std.specs.Prelude.{◌≡◌};
 ghost use Rattle.std.specs.Str.{chars};
 ghost use Rattle.css_meaning.specs.Attributes as spec;
 
-use crate::texts::{
-    begins, begins_in_any_case, ends, includes, is_nothing, is_text, stops_or_dash,
-};
+use crate::texts::{begins_in_any_case, is_text, stops_or_dash};
 use css_selectors::Op;
-use text_base::{ByteKind, Space5, is_white, run_end};
+use text_base::{ByteKind, Space5, begins, ends, includes, is_empty, is_white, run_end};
 
 /// Any byte but a space, a tab, a line feed, a carriage return or a form feed.
 #[derive(Clone, Copy)]
@@ -59,9 +57,9 @@ pub fn value_passes(op: Op, value: &str, wanted: &str) -> bool
         Op::Equals => is_text(value, wanted),
         Op::Word => has_word(value, wanted),
         Op::Dash => has_dash(value, wanted),
-        Op::Prefix => !is_nothing(wanted) && begins(value, wanted),
-        Op::Suffix => !is_nothing(wanted) && ends(value, wanted),
-        Op::Substring => !is_nothing(wanted) && includes(value, wanted),
+        Op::Prefix => !is_empty(wanted) && begins(value, wanted),
+        Op::Suffix => !is_empty(wanted) && ends(value, wanted),
+        Op::Substring => !is_empty(wanted) && includes(value, wanted),
     }
 }
 

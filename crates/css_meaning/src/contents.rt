@@ -7,9 +7,8 @@ ghost use Rattle.doc_model.specs.StringValue.{string_value, texts_below};
 ghost use Rattle.css_meaning.specs.Simples as spec;
 ghost use Rattle.css_meaning.specs.inner.TextPlaces.{text_at, bytes_from, begins_in};
 
-use crate::texts::includes;
 use doc_model::{Kind, Tree, is_parent, is_text};
-use text_base::bytes_from;
+use text_base::{bytes_from, includes};
 
 /// Whether the row is an element or a text.
 fn is_content<T: Tree>(tree: &T, y: u32) -> bool

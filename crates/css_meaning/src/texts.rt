@@ -2,9 +2,7 @@
 ghost use Rattle.std.specs.Prelude.{◌≡◌, ◌==◌, ◌||◌, nat_le, length, slice_index, map};
 ghost use Rattle.std.specs.Char.{to_ascii_lowercase};
 ghost use Rattle.std.specs.Str.{chars, bytes_eq};
-ghost use Rattle.text_base.specs.Strings.{is_empty, starts_with, ends_with, contains, is_among};
-
-use text_base::find_text;
+ghost use Rattle.text_base.specs.Strings.{starts_with, is_among};
 
 /// Whether the texts are the same.
 pub fn is_text(text: &str, other: &str) -> bool
@@ -23,34 +21,6 @@ pub fn is_one_of(text: &str, others: &[&str]) -> bool
         }
     }
     false
-}
-
-/// Whether the text has no characters.
-pub fn is_nothing(text: &str) -> bool
-    ensures { result ≡ is_empty (chars text.now) }
-{
-    text.is_empty()
-}
-
-/// Whether the text begins with the other.
-pub fn begins(text: &str, start: &str) -> bool
-    ensures { result ≡ starts_with (chars text.now) (chars start.now) }
-{
-    text.starts_with(start)
-}
-
-/// Whether the text ends with the other.
-pub fn ends(text: &str, end: &str) -> bool
-    ensures { result ≡ ends_with (chars text.now) (chars end.now) }
-{
-    text.ends_with(end)
-}
-
-/// Whether the text contains the other.
-pub fn includes(text: &str, part: &str) -> bool
-    ensures { result ≡ contains (chars text.now) (chars part.now) }
-{
-    part.is_empty() || find_text(text, part.as_bytes(), 0) < text.len()
 }
 
 /// Whether the bytes are the others with their ASCII letters in lower case.

@@ -7,7 +7,7 @@ use Rattle.xpath_lexer.specs.Places.{most_xpath}
 use Rattle.xpath_parser.specs.Reading.{ReadsAs}
 use Rattle.xpath_parser.specs.Terms.{most_open}
 use Rattle.xpath_parser.proofs.Complete.{one_expression}
-use Rattle.css_printed.specs.Expression.{expression}
+use Rattle.css_printed.specs.inner.Expression.{expression}
 use Rattle.css_printed.specs.Printed.{printed}
 use Rattle.css_printed.specs.Promise.{KeepsMeaning, alone}
 use Rattle.css_printed.proofs.MeansAll.{denote_answers, denote_matched}

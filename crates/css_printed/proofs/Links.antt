@@ -10,7 +10,7 @@ use Rattle.css_selectors.specs.declared.selector.Link.{Link}
 use Rattle.css_selectors.specs.declared.selector.Link.TheVariants as link
 use Rattle.css_meaning.specs.Matching.{linked}
 use Rattle.css_meaning.proofs.ListTests as lists
-use Rattle.css_printed.specs.LinkPredicates.{axis_of}
+use Rattle.css_printed.specs.inner.LinkPredicates.{axis_of}
 
 -- how the row of a part stands to the one before it: the first part's is the context row or below it
 abbrev pub near : Document → Link → ℕ → ℕ → Bool

@@ -3,7 +3,7 @@ use Rattle.std.proofs.Common.{◌≡◌, ◌≢◌, refl, ℕ, zero, suc, ◌+�
 use Rattle.std.specs.Prelude.{pos}
 use Rattle.std.specs.List.{list_any, range_with_len}
 use Rattle.std.specs.Ordering.{int_eq}
-use Rattle.std.specs.Cmp.{signed_Decides}
+use Rattle.std.specs.Cmp.{signed_Decides, both_ways}
 use Rattle.std.proofs.lemmas.Bool.{and_parts, eqb-true, eq-eqb, ltb-true, false_from_ne_true}
 use Rattle.std.proofs.lemmas.Bool.Decides.{eqb_tells}
 use Rattle.doc_model.specs.declared.Axis.TheVariants as axis
@@ -18,7 +18,7 @@ use Rattle.css_meaning.proofs.Finding.{found}
 use Rattle.xpath_parser.specs.declared.expression.Expr.{Expr}
 use Rattle.xpath_parser.specs.Denote.{has, keeps, kept, kept_from, denote, walk_of}
 use Rattle.xpath_parser.proofs.Equations as eq
-use Rattle.css_printed.specs.Predicates.{step, number}
+use Rattle.css_printed.specs.inner.Predicates.{step, number}
 use Rattle.css_printed.proofs.Links.{axis_later}
 use Rattle.css_printed.proofs.PathsKept.{Keep}
 
@@ -118,12 +118,7 @@ module _ (doc : Document) where
   above_zero x y h = let less : x < y = ltb-true x y h in lt-ltb 0 y (omega arith)
 
   flip : (a b : ℕ) → eqb a b ≡ eqb b a
-  flip a b = bool_same _ _ (λ h. eq-eqb b a (sym (eqb-true a b h))) (λ h. eq-eqb a b (sym (eqb-true b a h)))
-    where
-      bool_same : (a b : Bool) → (a ≡ true → b ≡ true) → (b ≡ true → a ≡ true) → a ≡ b
-      bool_same true b h k = sym (h refl)
-      bool_same false true h k = k refl
-      bool_same false false h k = refl
+  flip a b = both_ways _ _ (λ h. eq-eqb b a (sym (eqb-true a b h))) (λ h. eq-eqb a b (sym (eqb-true b a h)))
 
   abbrev follows : ℕ → ℕ → Bool
   follows x z = on_axis doc axis.FollowingSibling x z && is_element doc z

@@ -1,48 +1,30 @@
 -- The quoted runs of a text's bytes are those of its characters, in bytes.
-use Rattle.std.proofs.Common.{◌≡◌, ℕ, suc, ◌<◌, ◌≤◌, Bool, true, false, cond, List, [], ◌∷◌, ◌++◌, length, map, get_or, refl, sym, ◌∙◌, ap, arith, encode_utf8_all, inl, inr}
+use Rattle.std.proofs.Common.{◌≡◌, ℕ, suc, ◌<◌, Bool, true, false, cond, List, [], ◌∷◌, ◌++◌, length, map, get_or, refl, sym, ◌∙◌, ap, arith, encode_utf8_all, inl, inr}
 use Rattle.std.specs.Prelude.{encode_utf8, ◌==◌, ◌||◌}
 use Rattle.std.specs.List.{list_any}
 use Rattle.std.proofs.lemmas.List.{append-nil}
-use Rattle.std.proofs.lemmas.Bool.{or_from, or_parts, cases_lt, cases_Bool}
-use Rattle.std.proofs.lemmas.Str.{encode_ascii, inside_one, length-encode, len_utf8_bounds}
+use Rattle.std.proofs.lemmas.List.Folds.{list_any-append}
+use Rattle.std.proofs.lemmas.Bool.{or_from, or_parts, cases_Bool}
+use Rattle.std.proofs.lemmas.Str.{length-encode, len_utf8_bounds}
+use Rattle.text_base.specs.Text.{IsNarrow}
+use Rattle.text_base.proofs.WordLemmas.{passing_byte, failing_bytes}
 use Rattle.css_printed.specs.Literals.{is_apostrophe, is_double, Quoted, quote_of, add, quoted_runs, literal_parts}
 
 abbrev Text : Type 0
 Text = List ℕ
 
--- a test that passes ASCII alone
-abbrev IsAsciiTest : (ℕ → Bool) → Type 0
-IsAsciiTest p = (c : ℕ) → 128 ≤ c → p c ≡ false
-
 at_each : (p : ℕ → Bool) (s : Text) → ((k : ℕ) → k < length s → p (get_or s k 0) ≡ false) → list_any p s ≡ false
 at_each p [] f = refl
 at_each p (c ∷ s) f = or_from _ _ (f 0 (omega arith)) (at_each p s (λ k l. f (suc k) (omega arith)))
 
--- each byte of a character is the character or past ASCII
-byte_of : (c k : ℕ) → k < length (encode_utf8 c) → get_or (encode_utf8 c) k 0 < 128 → c ≡ get_or (encode_utf8 c) k 0
-byte_of c k l h = inside_one c [] (encode_utf8 c) k (sym (append-nil (encode_utf8 c))) l h
+clear_bytes : (p : ℕ → Bool) → IsNarrow p → (c : ℕ) → p c ≡ false → list_any p (encode_utf8 c) ≡ false
+clear_bytes p narrow c h = at_each p (encode_utf8 c) (failing_bytes p narrow c h)
 
-pub clear_bytes : (p : ℕ → Bool) → IsAsciiTest p → (c : ℕ) → p c ≡ false → list_any p (encode_utf8 c) ≡ false
-clear_bytes p ascii c h = at_each p (encode_utf8 c) (λ k l. elim (cases_lt (get_or (encode_utf8 c) k 0) 128) [
-  | inl lt ↦ ap p (sym (byte_of c k l lt)) ∙ h
-  | inr ge ↦ ascii (get_or (encode_utf8 c) k 0) ge
-])
-
-true_false : (b : Bool) → b ≡ true → b ≡ false → ⊥
-true_false b h k = cc
-
-pub passing_ascii : (p : ℕ → Bool) → IsAsciiTest p → (c : ℕ) → p c ≡ true → encode_utf8 c ≡ c ∷ []
-passing_ascii p ascii c h = elim (cases_lt c 128) [ inl lt ↦ encode_ascii c lt | inr ge ↦ absurd (true_false (p c) h (ascii c ge)) ]
-
-holds_append : (p : ℕ → Bool) (x y : Text) → list_any p x ≡ false → list_any p (x ++ y) ≡ list_any p y
-holds_append p [] y h = refl
-holds_append p (c ∷ x) y h = let e : p c ≡ false = (or_parts _ _ h).0 in rw e (holds_append p x y (or_parts _ _ h).1)
-
-pub holds_bytes : (p : ℕ → Bool) → IsAsciiTest p → (x : Text) → list_any p (encode_utf8_all x) ≡ list_any p x
-holds_bytes p ascii [] = refl
-holds_bytes p ascii (c ∷ x) = elim (cases_Bool (p c)) [
-  | inl h ↦ ap (λ t. list_any p (t ++ encode_utf8_all x)) (passing_ascii p ascii c h) ∙ ap (λ b. p c || b) (holds_bytes p ascii x)
-  | inr h ↦ holds_append p (encode_utf8 c) (encode_utf8_all x) (clear_bytes p ascii c h) ∙ holds_bytes p ascii x ∙ ap (λ b. b || list_any p x) (sym h)
+holds_bytes : (p : ℕ → Bool) → IsNarrow p → (x : Text) → list_any p (encode_utf8_all x) ≡ list_any p x
+holds_bytes p narrow [] = refl
+holds_bytes p narrow (c ∷ x) = elim (cases_Bool (p c)) [
+  | inl h ↦ ap (λ t. list_any p (t ++ encode_utf8_all x)) (passing_byte p narrow c h) ∙ ap (λ b. p c || b) (holds_bytes p narrow x)
+  | inr h ↦ list_any-append p (encode_utf8 c) (encode_utf8_all x) ∙ ap (λ b. b || list_any p (encode_utf8_all x)) (clear_bytes p narrow c h) ∙ holds_bytes p narrow x ∙ ap (λ b. b || list_any p x) (sym h)
 ]
 
 abbrev pub in_bytes : Quoted → Quoted
@@ -85,10 +67,10 @@ adds_clear : (s : Text) (qs : List Quoted) → 0 < length s → list_any is_apos
 adds_clear [] qs l h = absurd (omega arith)
 adds_clear (c ∷ s) qs l h = adds_open c s qs h
 
-past_39 : (c : ℕ) → 128 ≤ c → is_apostrophe c ≡ false
+past_39 : IsNarrow is_apostrophe
 past_39 c h = grind arith
 
-past_34 : (c : ℕ) → 128 ≤ c → is_double c ≡ false
+past_34 : IsNarrow is_double
 past_34 c h = grind arith
 
 -- one character more, in bytes
@@ -123,7 +105,7 @@ open_34_bytes c (q ∷ qs) e =
 
 add_bytes : (c : ℕ) (qs : List Quoted) → adds (encode_utf8 c) (map in_bytes qs) ≡ map in_bytes (add c qs)
 add_bytes c qs = elim (cases_Bool (is_apostrophe c)) [
-  | inl h ↦ let one : encode_utf8 c ≡ c ∷ [] = passing_ascii is_apostrophe past_39 c h in
+  | inl h ↦ let one : encode_utf8 c ≡ c ∷ [] = passing_byte is_apostrophe past_39 c h in
       ap (λ s. adds s (map in_bytes qs)) one ∙ add_34 c (map in_bytes qs) h ∙ open_34_bytes c qs one ∙ ap (map in_bytes) (sym (add_34 c qs h))
   | inr h ↦ adds_clear (encode_utf8 c) (map in_bytes qs) (omega (arith, length-encode c, (len_utf8_bounds c).0)) (clear_bytes is_apostrophe past_39 c h)
       ∙ open_bytes c qs ∙ ap (map in_bytes) (sym (add_39 c qs h))

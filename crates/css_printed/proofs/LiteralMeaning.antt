@@ -7,7 +7,7 @@ use Rattle.xpath_parser.specs.Shapes.{Typing}
 use Rattle.xpath_parser.specs.Terms.{most_open}
 use Rattle.css_printed.specs.LiteralLaw.{LiteralLaw}
 use Rattle.css_printed.specs.Literals.{literal_text}
-use Rattle.css_printed.specs.Predicates as expression
+use Rattle.css_printed.specs.inner.Predicates as expression
 use Rattle.css_selectors.specs.Texts.{IsText}
 use Rattle.css_printed.proofs.MeansNames.{at_text}
 use Rattle.css_printed.proofs.ReadBack.{spoken_reads}

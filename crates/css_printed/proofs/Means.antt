@@ -28,9 +28,9 @@ use Rattle.xpath_parser.specs.Conversions.{rows_of}
 use Rattle.xpath_parser.specs.Functions.{Context}
 use Rattle.xpath_parser.specs.Denote.{Walk, has, path, rows_in, denote, walk_of}
 use Rattle.xpath_parser.proofs.Equations.{at_path, at_here, at_union}
-use Rattle.css_printed.specs.Expression.{tail_steps, selector_steps, selector_expression, expression}
-use Rattle.css_printed.specs.Predicates.{step, attribute_step}
-use Rattle.css_printed.specs.TestPredicates.{step_of}
+use Rattle.css_printed.specs.inner.Expression.{tail_steps, selector_steps, selector_expression, expression}
+use Rattle.css_printed.specs.inner.Predicates.{step, attribute_step}
+use Rattle.css_printed.specs.inner.TestPredicates.{step_of}
 use Rattle.css_printed.proofs.Links.{near}
 use Rattle.css_printed.proofs.Paths as paths
 use Rattle.css_printed.proofs.Paths.{chain, path_append, path_chain, path_rows, one_step, in_rows_in}

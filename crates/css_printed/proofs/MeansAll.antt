@@ -40,14 +40,14 @@ use Rattle.std.proofs.lemmas.Bool.{and_parts, or_left, or_right}
 use Rattle.xpath_values.specs.declared.value.Value.TheVariants.{Nodes}
 use Rattle.xpath_parser.specs.Functions.{Context}
 use Rattle.xpath_parser.specs.Denote.{denote}
-use Rattle.css_printed.specs.Expression.{expression}
+use Rattle.css_printed.specs.inner.Expression.{expression}
 use Rattle.css_printed.specs.Promise.{IsWithin, alone, matched}
 use Rattle.css_printed.proofs.MeansLanguage.{lang_is}
 use Rattle.css_printed.proofs.Means.{Further, SelectorGives, denote_list}
 use Rattle.xpath_parser.specs.declared.expression.Expr.{Expr}
-use Rattle.css_printed.specs.Predicates.{attribute, plain_attribute, elements, equals, literal, not_one, op_predicate, pseudo_predicates}
-use Rattle.css_printed.specs.TestPredicates as q
-use Rattle.css_printed.specs.TestPredicates.{Asked, test_asked, compound_expression, relative_expression}
+use Rattle.css_printed.specs.inner.Predicates.{attribute, plain_attribute, elements, equals, literal, not_one, op_predicate, pseudo_predicates}
+use Rattle.css_printed.specs.inner.TestPredicates as q
+use Rattle.css_printed.specs.inner.TestPredicates.{Asked, test_asked, compound_expression, relative_expression}
 use Rattle.css_printed.proofs.PrintedAt.{Layer, FitsPart, asked_layer, asked_at, asked_at_simple, asked_at_any}
 use Rattle.css_printed.proofs.MeansChoices.{SimpleKeeps, simples_keep, Tells, keep_tells, keep_not, tells_choice, compound_tells}
 use Rattle.css_printed.proofs.PathsKept.{Keep, keep_same}

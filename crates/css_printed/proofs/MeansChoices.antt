@@ -19,8 +19,8 @@ use Rattle.xpath_parser.specs.declared.expression.Expr.{Expr}
 use Rattle.xpath_parser.specs.declared.expression.Expr.TheVariants as e
 use Rattle.xpath_parser.specs.Conversions.{is_any, truth_of}
 use Rattle.xpath_parser.specs.Denote.{keeps}
-use Rattle.css_printed.specs.Predicates.{path, node_test, name_brackets, not_one}
-use Rattle.css_printed.specs.TestPredicates.{choice, compound_expression, simple_predicates}
+use Rattle.css_printed.specs.inner.Predicates.{path, node_test, name_brackets, not_one}
+use Rattle.css_printed.specs.inner.TestPredicates.{choice, compound_expression, simple_predicates}
 use Rattle.css_printed.proofs.MeansNames.{element_kept, keep_element, passes_element}
 use Rattle.css_printed.proofs.MeansParts.{is_named_element, all_hold, element_row, self_any}
 use Rattle.css_printed.proofs.MeansValues.{Value_at, Truths_at, one_of, at_or, at_not, at_step, any_kept, is_truth}

@@ -25,7 +25,7 @@ use Rattle.xpath_parser.specs.Denote.{has, denote, walk_of}
 use Rattle.xpath_parser.proofs.Equations as eq
 use Rattle.css_printed.specs.Literals.{Quoted, add, quote_of, quoted_runs, literal_parts, is_apostrophe, is_double}
 use Rattle.css_printed.specs.Names.{is_plain}
-use Rattle.css_printed.specs.Predicates.{literal, literal_of, named, test_of_name, predicates_of_name, node_test, name_brackets, elements, attribute, attribute_step, plain_attribute}
+use Rattle.css_printed.specs.inner.Predicates.{literal, literal_of, named, test_of_name, predicates_of_name, node_test, name_brackets, elements, attribute, attribute_step, plain_attribute}
 use Rattle.css_printed.proofs.PathsKept.{Is, Keep, keep_none, keep_one, step_has}
 use Rattle.css_printed.proofs.MeansValues.{Value_at, is_truth, at_two, at_step, at_bare_step}
 

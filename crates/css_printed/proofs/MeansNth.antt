@@ -1,9 +1,9 @@
 -- The predicates that count siblings.
-use Rattle.std.proofs.Common.{◌≡◌, refl, ℕ, zero, suc, ◌%◌, ◌^◌, ◌<◌, ◌≤◌, Bool, true, false, cond, eqb, List, [], ◌∷◌, length, ap, sym, ◌∙◌, map, arith}
+use Rattle.std.proofs.Common.{◌≡◌, ℕ, zero, suc, ◌%◌, ◌^◌, ◌<◌, ◌≤◌, Bool, true, cond, eqb, List, [], ◌∷◌, length, ap, ◌∙◌, map, arith}
 use Rattle.std.specs.Prelude.{ℤ, pos, nat_le}
 use Rattle.std.specs.List.{AllByRecursion}
 use Rattle.std.specs.Ordering.{int_eq}
-use Rattle.std.specs.Cmp.{signed_Decides}
+use Rattle.std.specs.Cmp.{signed_Decides, both_ways}
 use Rattle.std.proofs.Math.Nat.{mod-le}
 use Rattle.std.proofs.lemmas.Bool.{eqb-true, eq-eqb}
 use Rattle.std.proofs.lemmas.Bool.Decides.{nat_tests}
@@ -20,7 +20,7 @@ use Rattle.css_meaning.specs.Nth.{is_nth}
 use Rattle.css_selectors.specs.WellMade.{IsSmall}
 use Rattle.doc_model.specs.Document.{Document}
 use Rattle.css_printed.specs.Conditions.{Condition, never, exactly, at_least, at_most, every, conditions}
-use Rattle.css_printed.specs.Predicates.{number, count, joins, condition_predicate}
+use Rattle.css_printed.specs.inner.Predicates.{number, count, joins, condition_predicate}
 use Rattle.css_printed.proofs.PathsKept.{Is, Keep, keep_none, keep_one, keep_both, keep_same}
 use Rattle.css_printed.proofs.MeansValues.{Value_at, is_truth, is_never, at_two, at_number, at_call_one}
 use Rattle.css_printed.proofs.MeansPositions.{meets, meet_all, IsSmallCondition, conditions_nth, small_conditions}
@@ -28,13 +28,8 @@ use Rattle.css_printed.proofs.MeansPositions.{meets, meet_all, IsSmallCondition,
 whole_small : (n : ℕ) → n < 2 ^ 53 → whole (pos n) ≡ Whole (pos n)
 whole_small n h = let in_it : nat_le n 9007199254740991 ≡ true = grind (arith, nat_tests) in ap (λ b. cond b (Whole (pos n)) NaN) in_it
 
-bool_same : (a b : Bool) → (a ≡ true → b ≡ true) → (b ≡ true → a ≡ true) → a ≡ b
-bool_same true b h k = sym (h refl)
-bool_same false true h k = k refl
-bool_same false false h k = refl
-
 same_pos : (n m : ℕ) → int_eq (pos n) (pos m) ≡ eqb n m
-same_pos n m = bool_same _ _ (λ h. eq-eqb n m (let same : pos n ≡ pos m = (signed_Decides (pos n) (pos m)).0 h in cc)) (λ h. (signed_Decides (pos n) (pos m)).1 (ap pos (eqb-true n m h)))
+same_pos n m = both_ways _ _ (λ h. eq-eqb n m (let same : pos n ≡ pos m = (signed_Decides (pos n) (pos m)).0 h in cc)) (λ h. (signed_Decides (pos n) (pos m)).1 (ap pos (eqb-true n m h)))
 
 module _ (doc : Document) where
   module _ (s : Expr) (x : ℕ) (found : List ℕ) (small : length found < 2 ^ 53) (at_s : Value_at doc s x (Nodes found)) where

@@ -1,11 +1,12 @@
 -- The conditions on the number of siblings are what `an+b` asks of the position.
 use Rattle.std.proofs.Common.{◌≡◌, refl, sym, ◌∙◌, ap, ℕ, zero, suc, ◌+◌, ◌-◌, ◌*◌, ◌/◌, ◌%◌, ◌^◌, ◌<◌, ◌≤◌, arith, ◌⊎◌, inl, inr, Bool, true, false, ◌&&◌, eqb, ltb, cond, List, [], ◌∷◌}
 use Rattle.std.proofs.lemmas.Int.{ints}
+use Rattle.std.specs.Cmp.{both_ways}
 use Rattle.std.proofs.lemmas.Bool.{and_parts, and_from, eqb-true, eq-eqb, ltb-false}
 use Rattle.std.specs.Prelude.{ℤ, pos, negsuc, ◌-ℤ◌, nat_le}
 use Rattle.std.specs.List.{list_all, AllByRecursion}
 use Rattle.std.proofs.lemmas.Bool.Decides.{nat_tests}
-use Rattle.css_selectors.specs.WellMade.{IsSmall}
+use Rattle.css_selectors.specs.WellMade.{IsSmall, most_number}
 use Rattle.css_meaning.specs.Nth.{IsNth, is_nth}
 use Rattle.css_meaning.proofs.Positions.{nth_law}
 use Rattle.css_printed.specs.Conditions.{Condition, never, exactly, at_least, at_most, every, remainder, every_from, conditions}
@@ -198,14 +199,9 @@ asked_meets (negsuc a) (pos (suc m)) c h =
     and_from _ _ (at_least_to c m h.0) (asks_every a (remainder (pos (suc m) -ℤ pos 1) (suc a)) c (ltb 1 (suc a)) (h.1 ∙ sym (remainder_above m (suc a))))
 asked_meets (negsuc a) (negsuc m) c h = absurd h
 
-bool_same : (a b : Bool) → (a ≡ true → b ≡ true) → (b ≡ true → a ≡ true) → a ≡ b
-bool_same true b h k = sym (h refl)
-bool_same false true h k = k refl
-bool_same false false h k = refl
-
 -- the conditions hold of so many siblings where `an+b` names the position behind them
 pub conditions_nth : (a b : ℤ) (c : ℕ) → meet_all (conditions a b) c ≡ is_nth a b (suc c)
-conditions_nth a b c = bool_same _ _ (λ h. (nth_law a b (suc c)).1 (nth_from a b c (meets_asked a b c h))) (λ h. asked_meets a b c (asked a b c ((nth_law a b (suc c)).0 h)))
+conditions_nth a b c = both_ways _ _ (λ h. (nth_law a b (suc c)).1 (nth_from a b c (meets_asked a b c h))) (λ h. asked_meets a b c (asked a b c ((nth_law a b (suc c)).0 h)))
 
 -- ---- their numbers are small
 
@@ -216,7 +212,7 @@ IsSmallCondition (at_least m) = m < 2 ^ 53
 IsSmallCondition (at_most m) = m < 2 ^ 53
 IsSmallCondition (every k r) = (0 < k) × (k < 2 ^ 53) × (r < 2 ^ 53)
 
-small_every : (a r : ℕ) (b : Bool) → suc a ≤ 1000000 → r < suc a → AllByRecursion IsSmallCondition (cond b (every (suc a) r ∷ []) [])
+small_every : (a r : ℕ) (b : Bool) → suc a ≤ most_number → r < suc a → AllByRecursion IsSmallCondition (cond b (every (suc a) r ∷ []) [])
 small_every a r true h l = ((omega arith, omega arith, omega arith), tt)
 small_every a r false h l = tt
 

@@ -18,7 +18,7 @@ use Rattle.xpath_parser.specs.declared.expression.Step.{Step}
 use Rattle.xpath_parser.specs.Conversions.{is_any}
 use Rattle.xpath_parser.specs.Denote.{has, path, walk_of}
 use Rattle.xpath_parser.proofs.Equations.{at_path, at_here}
-use Rattle.css_printed.specs.TestPredicates.{step_of, relative_expression}
+use Rattle.css_printed.specs.inner.TestPredicates.{step_of, relative_expression}
 use Rattle.css_printed.proofs.Links.{near}
 use Rattle.css_printed.proofs.Means.{related, walk, Further, near_linked, all_step, all_stay, walks}
 use Rattle.css_printed.proofs.MeansChoices.{Tells, tells_nodes, tells_same}

@@ -6,7 +6,7 @@ use Rattle.std.proofs.lemmas.Int.{ints}
 use Rattle.std.proofs.lemmas.Bool.{false_from_ne_true, cases_lt}
 use Rattle.std.proofs.lemmas.Bool.Decides.{nat_tests}
 use Rattle.text_base.specs.Strings.{is_empty, ends_with}
-use Rattle.css_meaning.proofs.Values.{same_means}
+use Rattle.text_base.proofs.PartLemmas.{same_means}
 use Rattle.xpath_values.specs.declared.value.XNum.TheVariants.{Whole, NaN}
 use Rattle.xpath_values.specs.Numbers.{whole, num_sub}
 use Rattle.xpath_values.specs.Strings.{at_places, substring_from}

@@ -10,7 +10,7 @@ use Rattle.css_meaning.proofs.ListTests as lists
 use Rattle.xpath_values.specs.declared.value.Value.TheVariants.{Nodes}
 use Rattle.xpath_parser.specs.declared.expression.Expr.{Expr}
 use Rattle.xpath_parser.specs.Conversions.{is_any}
-use Rattle.css_printed.specs.Predicates.{path, elements, not_one}
+use Rattle.css_printed.specs.inner.Predicates.{path, elements, not_one}
 use Rattle.css_printed.proofs.PathsKept.{Is, Keep, keep_one}
 use Rattle.css_printed.proofs.MeansValues.{Value_at, is_truth, any_kept, at_step, at_not}
 use Rattle.css_printed.proofs.MeansNames.{at_elements}

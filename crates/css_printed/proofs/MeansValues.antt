@@ -23,7 +23,7 @@ use Rattle.xpath_parser.specs.Conversions.{is_any, truth_of}
 use Rattle.xpath_parser.specs.Functions.{called}
 use Rattle.xpath_parser.specs.Denote.{path as walked, keeps, rows_in, denote, walk_of, applied}
 use Rattle.xpath_parser.proofs.Equations as eq
-use Rattle.css_printed.specs.Predicates.{step, path, joins, number, both}
+use Rattle.css_printed.specs.inner.Predicates.{step, path, joins, number, both}
 use Rattle.css_printed.proofs.PathsKept.{Is, Keep, keep_none, step_has}
 
 pub any_kept : (p : ℕ → Bool) (xs : List ℕ) → is_any (filter p xs) ≡ list_any p xs

@@ -2,6 +2,7 @@
 use Rattle.std.proofs.Common.{◌≡◌, refl, ℕ, Bool, true, false, ◌&&◌, ◌||◌, cond, eqb, List, [], ◌∷◌, ◌++◌, ap, sym, ◌∙◌, append_assoc}
 use Rattle.std.specs.List.{list_any, join_with_byte}
 use Rattle.std.specs.Str.{bytes_eq}
+use Rattle.std.specs.Cmp.{both_ways}
 use Rattle.std.proofs.lemmas.Bool.{eqb-true, eq-eqb}
 use Rattle.std.proofs.lemmas.List.{append-nil}
 use Rattle.text_base.specs.Text.{is_space5}
@@ -94,12 +95,7 @@ no_space true b h = cc
 no_space false b h = (refl, h)
 
 flip : (a b : ℕ) → eqb a b ≡ eqb b a
-flip a b = bool_same _ _ (λ h. eq-eqb b a (sym (eqb-true a b h))) (λ h. eq-eqb a b (sym (eqb-true b a h)))
-  where
-    bool_same : (a b : Bool) → (a ≡ true → b ≡ true) → (b ≡ true → a ≡ true) → a ≡ b
-    bool_same true b h k = sym (h refl)
-    bool_same false true h k = k refl
-    bool_same false false h k = refl
+flip a b = both_ways _ _ (λ h. eq-eqb b a (sym (eqb-true a b h))) (λ h. eq-eqb a b (sym (eqb-true b a h)))
 
 -- at the front of a word and a space stand v and a space where the word is v
 front_is : (w v r : List ℕ) → Whole w → Whole v → starts_with (w ++ 32 ∷ r) (v ++ 32 ∷ []) ≡ bytes_eq w v

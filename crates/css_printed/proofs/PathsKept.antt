@@ -1,7 +1,9 @@
 -- What a step keeps, where its predicates do not ask for the position.
-use Rattle.std.proofs.Common.{◌≡◌, refl, ℕ, suc, Bool, true, false, ◌&&◌, ◌||◌, cond, eqb, List, [], ◌∷◌, ◌++◌, ap, sym, ◌∙◌, filter, map, length, reverse}
+use Rattle.std.proofs.Common.{◌≡◌, refl, ℕ, suc, Bool, true, false, ◌&&◌, ◌||◌, ◌==◌, cond, eqb, List, [], ◌∷◌, ◌++◌, ap, sym, ◌∙◌, filter, map, length, reverse}
 use Rattle.std.proofs.lemmas.List.{reverse-append, map-append}
 use Rattle.std.proofs.lemmas.Bool.{and_parts}
+use Rattle.std.proofs.lemmas.List.Folds.{list_any-append}
+use Rattle.text_base.proofs.Lists.{filter_twice}
 use Rattle.doc_model.specs.declared.Axis.{Axis}
 use Rattle.doc_model.specs.declared.NodeTest.{NodeTest}
 use Rattle.doc_model.specs.Document.{Document, rows}
@@ -28,23 +30,6 @@ pub filter_all : (xs : List ℕ) → filter (λ y. true) xs ≡ xs
 filter_all [] = refl
 filter_all (x ∷ xs) = ap (λ r. x ∷ r) (filter_all xs)
 
-filter_twice_at : (p q : ℕ → Bool) (x : ℕ) (xs : List ℕ) (b : Bool) → p x ≡ b → filter q (filter p xs) ≡ filter (λ y. p y && q y) xs
-    → filter q (cond b (x ∷ filter p xs) (filter p xs)) ≡ cond (b && q x) (x ∷ filter (λ y. p y && q y) xs) (filter (λ y. p y && q y) xs)
-filter_twice_at p q x xs true h more = ap (λ r. cond (q x) (x ∷ r) r) more
-filter_twice_at p q x xs false h more = more
-
-pub filter_twice : (p q : ℕ → Bool) (xs : List ℕ) → filter q (filter p xs) ≡ filter (λ y. p y && q y) xs
-filter_twice p q [] = refl
-filter_twice p q (x ∷ xs) = filter_twice_at p q x xs (p x) refl (filter_twice p q xs)
-
-pub has_append : (y : ℕ) (xs ys : List ℕ) → has y (xs ++ ys) ≡ (has y xs || has y ys)
-has_append y [] ys = refl
-has_append y (x ∷ xs) ys = ap (λ b. eqb x y || b) (has_append y xs ys) ∙ or_assoc (eqb x y) (has y xs) (has y ys)
-  where
-    or_assoc : (a b c : Bool) → (a || (b || c)) ≡ ((a || b) || c)
-    or_assoc true b c = refl
-    or_assoc false b c = refl
-
 either_way : (a b : Bool) → (a || (b || false)) ≡ (b || a)
 either_way true true = refl
 either_way true false = refl
@@ -53,7 +38,7 @@ either_way false false = refl
 
 pub has_reversed : (y : ℕ) (xs : List ℕ) → has y (reverse xs) ≡ has y xs
 has_reversed y [] = refl
-has_reversed y (x ∷ xs) = ap (has y) (reverse-append (x ∷ []) xs) ∙ has_append y (reverse xs) (x ∷ []) ∙ either_way (has y (reverse xs)) (eqb x y) ∙ ap (λ b. eqb x y || b) (has_reversed y xs)
+has_reversed y (x ∷ xs) = ap (has y) (reverse-append (x ∷ []) xs) ∙ list_any-append (λ z. z == y) (reverse xs) (x ∷ []) ∙ either_way (has y (reverse xs)) (eqb x y) ∙ ap (λ b. eqb x y || b) (has_reversed y xs)
 
 has_turned : (y : ℕ) (back : Bool) (xs : List ℕ) → has y (cond back (reverse xs) xs) ≡ has y xs
 has_turned y true xs = has_reversed y xs

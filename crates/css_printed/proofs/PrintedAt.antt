@@ -27,15 +27,15 @@ use Rattle.xpath_parser.specs.declared.expression.Func.TheVariants as f
 use Rattle.xpath_parser.specs.declared.expression.Start.TheVariants as start
 use Rattle.xpath_parser.specs.declared.expression.Step.{Step}
 use Rattle.xpath_parser.specs.declared.term.Term.{Term}
-use Rattle.css_printed.specs.LinkPredicates.{axis_of, link_test, link_brackets}
+use Rattle.css_printed.specs.inner.LinkPredicates.{axis_of, link_test, link_brackets}
 use Rattle.css_printed.specs.Links.{first_text, step_text}
 use Rattle.css_printed.specs.Literals.{literal_text}
 use Rattle.css_printed.specs.Names.{element_text, attribute_text}
 use Rattle.css_printed.specs.Simples.{op_text, nth_text, pseudo_text, lang_text}
-use Rattle.css_printed.specs.Predicates.{step, path, node_test, name_brackets, not_one}
+use Rattle.css_printed.specs.inner.Predicates.{step, path, node_test, name_brackets, not_one}
 use Rattle.css_printed.specs.Printed.{part_text}
-use Rattle.css_printed.specs.TestPredicates as x
-use Rattle.css_printed.specs.TestPredicates.{Asked, test_asked, compound_expression, step_of, relative_expression, simple_predicates}
+use Rattle.css_printed.specs.inner.TestPredicates as x
+use Rattle.css_printed.specs.inner.TestPredicates.{Asked, test_asked, compound_expression, step_of, relative_expression, simple_predicates}
 use Rattle.css_printed.specs.TestTexts as s
 use Rattle.css_printed.specs.TestTexts.{Bytes, ByName, Said, Steps, test_said, compound_text, part_steps, relative_text, simple_text}
 use Rattle.css_printed.proofs.TemplateTerms as t

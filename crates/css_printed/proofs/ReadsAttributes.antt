@@ -12,7 +12,7 @@ use Rattle.xpath_parser.specs.declared.term.Term.{Term}
 use Rattle.xpath_parser.specs.declared.term.Term.TheVariants as t
 use Rattle.xpath_parser.specs.Grammar as g
 use Rattle.xpath_parser.specs.Grammar.{Reads, Node}
-use Rattle.css_printed.specs.Predicates as x
+use Rattle.css_printed.specs.inner.Predicates as x
 use Rattle.css_printed.proofs.Readings.{up, to_2, to_5, to_8, whole}
 use Rattle.css_printed.proofs.ReadsPieces.{to_6, to_7, Brackets, bracket, nowhere_reads, equal, minus, and_two, or_two, round, number_reads, call_one, call_two, call_three}
 use Rattle.css_printed.proofs.ReadsNames.{text_reads}

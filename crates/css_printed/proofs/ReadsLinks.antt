@@ -8,8 +8,8 @@ use Rattle.xpath_parser.specs.declared.expression.Expr.{Expr}
 use Rattle.xpath_parser.specs.declared.term.Term.{Term}
 use Rattle.xpath_parser.specs.Grammar as g
 use Rattle.xpath_parser.specs.Grammar.{Reads}
-use Rattle.css_printed.specs.LinkPredicates.{link_test, link_brackets, axis_of, next_brackets}
-use Rattle.css_printed.specs.Predicates.{step}
+use Rattle.css_printed.specs.inner.LinkPredicates.{link_test, link_brackets, axis_of, next_brackets}
+use Rattle.css_printed.specs.inner.Predicates.{step}
 use Rattle.css_printed.proofs.Readings.{whole}
 use Rattle.css_printed.proofs.ReadsNames.{element_tested, elements_read}
 use Rattle.css_printed.proofs.ReadsPieces.{Brackets, no_brackets, bracket, join, any_tested, with, axis_step, child_step, number_reads}

@@ -14,8 +14,8 @@ use Rattle.xpath_parser.specs.Grammar as g
 use Rattle.xpath_parser.specs.Grammar.{Reads}
 use Rattle.css_printed.specs.Literals.{Quoted, is_apostrophe, is_double, quote_of, add, quoted_runs, literal_parts}
 use Rattle.css_printed.specs.Names.{is_plain}
-use Rattle.css_printed.specs.Predicates as x
-use Rattle.css_printed.specs.Predicates.{step, node_test, name_brackets, test_of_name, predicates_of_name, attribute_step, elements, literal_of}
+use Rattle.css_printed.specs.inner.Predicates as x
+use Rattle.css_printed.specs.inner.Predicates.{step, node_test, name_brackets, test_of_name, predicates_of_name, attribute_step, elements, literal_of}
 use Rattle.css_printed.proofs.Readings.{to_2, to_5, to_8, whole}
 use Rattle.css_printed.proofs.ReadsPieces.{Brackets, Tested, bracket, with, any_tested, name_tested, axis_step, at_step, single, equal, lone, literal_reads}
 use Rattle.css_printed.proofs.TemplateTerms as p

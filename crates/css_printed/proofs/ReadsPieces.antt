@@ -17,7 +17,7 @@ use Rattle.xpath_parser.specs.declared.term.Term.{Term}
 use Rattle.xpath_parser.specs.declared.term.Term.TheVariants as t
 use Rattle.xpath_parser.specs.Grammar as g
 use Rattle.xpath_parser.specs.Grammar.{Reads, tier_of}
-use Rattle.css_printed.specs.Predicates.{step, joins, equals, both, number}
+use Rattle.css_printed.specs.inner.Predicates.{step, joins, equals, both, number}
 use Rattle.css_printed.proofs.Readings.{up, to_2, to_5, whole}
 use Rattle.css_printed.proofs.TemplateTerms as p
 

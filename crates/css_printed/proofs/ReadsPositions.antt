@@ -12,7 +12,7 @@ use Rattle.xpath_parser.specs.declared.term.Term.TheVariants as t
 use Rattle.xpath_parser.specs.Grammar as g
 use Rattle.xpath_parser.specs.Grammar.{Reads}
 use Rattle.css_printed.specs.Conditions.{Condition, never, exactly, at_least, at_most, every, conditions}
-use Rattle.css_printed.specs.Predicates as x
+use Rattle.css_printed.specs.inner.Predicates as x
 use Rattle.css_printed.proofs.Readings.{up, to_2, to_5, to_8, whole}
 use Rattle.css_printed.proofs.ReadsPieces.{Brackets, bracket, nowhere_reads, each_one, any_tested, axis_step, single, equal, greater_equal, less_equal, modulo, number_reads, call_one}
 use Rattle.css_printed.proofs.ReadsNames.{elements_read}

@@ -15,7 +15,7 @@ use Rattle.xpath_parser.specs.declared.term.Term.{Term}
 use Rattle.xpath_parser.specs.declared.term.Term.TheVariants as t
 use Rattle.xpath_parser.specs.Grammar as g
 use Rattle.xpath_parser.specs.Grammar.{Reads, Operands}
-use Rattle.css_printed.specs.Predicates as x
+use Rattle.css_printed.specs.inner.Predicates as x
 use Rattle.css_printed.proofs.Readings.{up, to_2, to_5, whole}
 use Rattle.css_printed.proofs.ReadsPieces.{to_6, to_7, Brackets, bracket, join, nowhere_reads, any_tested, text_tested, axis_step, child_step, single, equal, and_two, and_three, or_two, round, literal_reads, call_one}
 use Rattle.css_printed.proofs.ReadsNames.{plain_attribute_reads, self_named_reads}

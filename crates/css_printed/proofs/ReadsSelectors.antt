@@ -16,8 +16,8 @@ use Rattle.xpath_parser.specs.declared.term.Term.{Term}
 use Rattle.xpath_parser.specs.declared.term.Term.TheVariants as t
 use Rattle.xpath_parser.specs.Grammar as g
 use Rattle.xpath_parser.specs.Grammar.{Reads, ReadsWhole, Operands}
-use Rattle.css_printed.specs.Expression.{tail_steps, selector_expression, expression, united}
-use Rattle.css_printed.specs.TestPredicates.{step_of}
+use Rattle.css_printed.specs.inner.Expression.{tail_steps, selector_expression, expression, united}
+use Rattle.css_printed.specs.inner.TestPredicates.{step_of}
 use Rattle.css_printed.proofs.Readings.{up, whole, to_5, to_8}
 use Rattle.css_printed.proofs.ReadsPieces.{text_tested, child_step}
 use Rattle.css_printed.proofs.ReadsNames.{attribute_step_reads}

@@ -26,9 +26,9 @@ use Rattle.xpath_parser.specs.declared.term.Term.{Term}
 use Rattle.xpath_parser.specs.declared.term.Term.TheVariants as t
 use Rattle.xpath_parser.specs.Grammar as g
 use Rattle.xpath_parser.specs.Grammar.{Reads, Operands}
-use Rattle.css_printed.specs.Predicates as x
-use Rattle.css_printed.specs.TestPredicates as q
-use Rattle.css_printed.specs.TestPredicates.{Asked, test_asked, compound_expression, step_of, relative_expression, simple_predicates}
+use Rattle.css_printed.specs.inner.Predicates as x
+use Rattle.css_printed.specs.inner.TestPredicates as q
+use Rattle.css_printed.specs.inner.TestPredicates.{Asked, test_asked, compound_expression, step_of, relative_expression, simple_predicates}
 use Rattle.css_printed.proofs.PrintedAt.{Layer, FitsPart, terms_layer, terms_at, terms_at_simple, terms_at_compound, terms_at_first, terms_at_part, terms_at_relative, terms_at_any, asked_layer, asked_at, asked_at_simple, asked_at_compound, asked_at_part, asked_at_relative, asked_at_any}
 use Rattle.css_printed.proofs.Readings.{up, to_2, to_5, to_8, whole}
 use Rattle.css_printed.proofs.ReadsPieces.{to_7, Brackets, no_brackets, bracket, join, any_tested, with, axis_step, single, equal, number_reads, literal_reads, call_one, call_two, call_three}

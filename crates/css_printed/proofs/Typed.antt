@@ -14,7 +14,7 @@ use Rattle.xpath_parser.specs.declared.expression.Expr.TheViews.{rolls-Here}
 use Rattle.xpath_parser.specs.declared.expression.Start.TheVariants as start
 use Rattle.xpath_parser.specs.declared.expression.Step.{Step}
 use Rattle.xpath_parser.specs.Shapes.{Typing, typing, expr_typing, start_typing, operand_typing, step_typing}
-use Rattle.css_printed.specs.Predicates.{step}
+use Rattle.css_printed.specs.inner.Predicates.{step}
 
 abbrev Arm : Type 0
 Arm = Infix × Typing

@@ -22,11 +22,11 @@ use Rattle.xpath_values.specs.declared.value.Shape.TheVariants as shape
 use Rattle.xpath_parser.specs.declared.expression.Expr.{Expr}
 use Rattle.xpath_parser.specs.declared.expression.Func.TheVariants as f
 use Rattle.xpath_parser.specs.declared.expression.Step.{Step}
-use Rattle.css_printed.specs.LinkPredicates.{axis_of, link_test, link_brackets, next_brackets}
-use Rattle.css_printed.specs.Predicates as x
-use Rattle.css_printed.specs.Predicates.{node_test}
-use Rattle.css_printed.specs.TestPredicates as q
-use Rattle.css_printed.specs.TestPredicates.{Asked, test_asked, compound_expression, step_of, relative_expression, simple_predicates}
+use Rattle.css_printed.specs.inner.LinkPredicates.{axis_of, link_test, link_brackets, next_brackets}
+use Rattle.css_printed.specs.inner.Predicates as x
+use Rattle.css_printed.specs.inner.Predicates.{node_test}
+use Rattle.css_printed.specs.inner.TestPredicates as q
+use Rattle.css_printed.specs.inner.TestPredicates.{Asked, test_asked, compound_expression, step_of, relative_expression, simple_predicates}
 use Rattle.css_printed.proofs.PrintedAt.{Layer, FitsPart, asked_layer, asked_at, asked_at_simple, asked_at_compound, asked_at_part, asked_at_relative, asked_at_any}
 use Rattle.css_printed.proofs.Typed.{step_right, path_typing}
 use Rattle.css_printed.proofs.TypesPieces.{Typed, AllRight, number_typed, call_two, no_expression, front, one, join, or_typed, step_typed, path_typed}

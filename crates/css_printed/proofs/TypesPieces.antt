@@ -14,7 +14,7 @@ use Rattle.xpath_parser.specs.declared.expression.Func.{Func}
 use Rattle.xpath_parser.specs.declared.expression.Infix.{Infix}
 use Rattle.xpath_parser.specs.declared.expression.Operand.{roll-Operand}
 use Rattle.xpath_parser.specs.Shapes.{Typing, typing, expr_typing, start_typing, operand_typing, step_typing, infix_shape, function_shape, is_nodes}
-use Rattle.css_printed.specs.Predicates.{step, path, joins}
+use Rattle.css_printed.specs.inner.Predicates.{step, path, joins}
 use Rattle.css_printed.proofs.Typed.{step_right, path_typing, right_step}
 
 abbrev Arm : Type 0

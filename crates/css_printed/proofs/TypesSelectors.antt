@@ -14,9 +14,9 @@ use Rattle.css_selectors.specs.WellMade.{WellMade, IsSelector, IsPart}
 use Rattle.css_meaning.specs.Names.{folded}
 use Rattle.xpath_values.specs.declared.value.Shape.TheVariants as shape
 use Rattle.xpath_parser.specs.Shapes.{Typing, typing, shape_of, is_well_typed, is_nodes}
-use Rattle.css_printed.specs.Expression.{tail_steps, selector_steps, selector_expression, expression, united}
-use Rattle.css_printed.specs.Predicates.{test_of_name}
-use Rattle.css_printed.specs.TestPredicates.{step_of}
+use Rattle.css_printed.specs.inner.Expression.{tail_steps, selector_steps, selector_expression, expression, united}
+use Rattle.css_printed.specs.inner.Predicates.{test_of_name}
+use Rattle.css_printed.specs.inner.TestPredicates.{step_of}
 use Rattle.css_printed.proofs.Typed.{step_right, path_typing}
 use Rattle.css_printed.proofs.TypesChoices.{part_right, steps_right}
 use Rattle.css_printed.proofs.TypesPieces.{Typed, union_typing, no_expression, step_typed}

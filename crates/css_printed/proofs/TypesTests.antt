@@ -29,8 +29,8 @@ use Rattle.xpath_parser.specs.Shapes.{Typing, typing}
 use Rattle.css_printed.specs.Conditions.{Condition, never, exactly, at_least, at_most, every, conditions}
 use Rattle.css_printed.specs.Literals.{Quoted, literal_parts}
 use Rattle.css_printed.specs.Names.{is_plain}
-use Rattle.css_printed.specs.Predicates as x
-use Rattle.css_printed.specs.Predicates.{node_test, name_brackets, predicates_of_name, test_of_name, literal_of}
+use Rattle.css_printed.specs.inner.Predicates as x
+use Rattle.css_printed.specs.inner.Predicates.{node_test, name_brackets, predicates_of_name, test_of_name, literal_of}
 use Rattle.css_printed.proofs.TypesPieces.{Typed, AllRight, call_typing, literal_typing, literal_typed, number_typed, call_none, call_one, call_two, call_three, joins_typed, no_expression, front, one, join, each_one, or_typed, and_typed, path_typed}
 
 -- ---- literals

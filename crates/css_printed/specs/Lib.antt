@@ -1,15 +1,12 @@
 pub mod Conditions
 pub mod Examples
-pub mod Expression
-pub mod LinkPredicates
 pub mod Links
 pub mod LiteralLaw
 pub mod Literals
 pub mod Names
-pub mod Predicates
 pub mod Printed
 pub mod PrintedLaw
 pub mod Promise
 pub mod Simples
-pub mod TestPredicates
 pub mod TestTexts
+pub mod inner

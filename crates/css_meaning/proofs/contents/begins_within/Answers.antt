@@ -1,7 +1,7 @@
 use Rattle.std.proofs.Common.{◌≡◌, ◌++◌, ℕ, List, sym, ◌∙◌, ap, arith, drop, Bool}
 use Rattle.text_base.specs.Strings.{starts_with}
 use Rattle.css_meaning.specs.inner.TextPlaces.{bytes_from}
-use Rattle.css_meaning.proofs.ByteParts.{occurs_chars}
+use Rattle.text_base.proofs.ByteParts.{occurs_chars}
 use Rattle.css_meaning.proofs.TextPlaces.{begins_found, begins_late, begins_step, begins_here}
 use Rattle.css_meaning.proofs.contents.begins_within.Goals as goal
 

@@ -1,5 +1,5 @@
 use Rattle.std.proofs.Common.{◌∙◌}
-use Rattle.css_meaning.proofs.ByteParts.{same_chars}
+use Rattle.text_base.proofs.ByteParts.{same_chars}
 use Rattle.css_meaning.proofs.texts.is_text.Goals as goal
 
 pub returns : goal.returns

@@ -11,8 +11,8 @@ use Rattle.xpath_parser.specs.declared.expression.Expr.{Expr}
 use Rattle.xpath_parser.specs.declared.expression.Expr.TheVariants as e
 use Rattle.xpath_parser.specs.declared.expression.Start.TheVariants as start
 use Rattle.xpath_parser.specs.declared.expression.Step.{Step}
-use Rattle.css_printed.specs.Predicates.{step, attribute_step}
-use Rattle.css_printed.specs.TestPredicates.{step_of}
+use Rattle.css_printed.specs.inner.Predicates.{step, attribute_step}
+use Rattle.css_printed.specs.inner.TestPredicates.{step_of}
 
 abbrev pub tail_steps : Dialect → Tail → List Step
 tail_steps dialect tail.Element = []

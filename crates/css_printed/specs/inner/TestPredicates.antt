@@ -17,8 +17,8 @@ use Rattle.xpath_parser.specs.declared.expression.Expr.TheVariants as e
 use Rattle.xpath_parser.specs.declared.expression.Func.TheVariants as f
 use Rattle.xpath_parser.specs.declared.expression.Start.TheVariants as start
 use Rattle.xpath_parser.specs.declared.expression.Step.{Step}
-use Rattle.css_printed.specs.LinkPredicates.{axis_of, link_test, link_brackets}
-use Rattle.css_printed.specs.Predicates.{step, path, elements, node_test, name_brackets, plain_attribute, attribute, equals, literal, not_one, op_predicate, nth_predicates, pseudo_predicates, lang_predicate}
+use Rattle.css_printed.specs.inner.LinkPredicates.{axis_of, link_test, link_brackets}
+use Rattle.css_printed.specs.inner.Predicates.{step, path, elements, node_test, name_brackets, plain_attribute, attribute, equals, literal, not_one, op_predicate, nth_predicates, pseudo_predicates, lang_predicate}
 use Rattle.css_printed.specs.TestTexts.{ByName}
 
 -- the predicates of a test, and what its negation asks for

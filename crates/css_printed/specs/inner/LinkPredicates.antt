@@ -8,7 +8,7 @@ use Rattle.css_selectors.specs.declared.selector.Dialect.{Dialect}
 use Rattle.css_selectors.specs.declared.selector.Link.{Link}
 use Rattle.css_selectors.specs.declared.selector.Link.TheVariants as link
 use Rattle.xpath_parser.specs.declared.expression.Expr.{Expr}
-use Rattle.css_printed.specs.Predicates.{elements, number, node_test, name_brackets}
+use Rattle.css_printed.specs.inner.Predicates.{elements, number, node_test, name_brackets}
 
 abbrev pub axis_of : Link → Axis
 axis_of link.First = axis.DescendantOrSelf
