@@ -18,7 +18,7 @@ use Rattle.css_printed.specs.Names.{element_text, attribute_text}
 use Rattle.css_printed.specs.Simples.{op_text, nth_text, pseudo_text, lang_text}
 use Rattle.css_printed.specs.TestTexts.{Steps, choice, path_text, test_said, compound_text, part_steps, relative_text, simple_text}
 use Rattle.css_printed.proofs.PrintedAt as at
-use Rattle.css_translate.specs.Inner.{link_text, or_text, step_at}
+use Rattle.css_translate.specs.inner.Pieces.{link_text, or_text, step_at}
 
 abbrev Name : Type 0
 Name = Option (List ℕ)

@@ -16,7 +16,7 @@ use Rattle.css_selectors.specs.declared.selector.Test.TheVariants as v
 use Rattle.css_selectors.specs.declared.selector.Weight.{Weight}
 use Rattle.css_selectors.specs.Texts.{element_text, test_texts, compound_texts, part_texts, relative_texts, simple_texts, tail_text, selector_texts, AreTexts}
 use Rattle.css_selectors.proofs.TextsAt as at
-use Rattle.css_translate.specs.Read.{IsReadSimple, IsReadCompound, IsReadPart, IsReadRelative, IsReadSelector}
+use Rattle.css_translate.specs.inner.Read.{IsReadSimple, IsReadCompound, IsReadPart, IsReadRelative, IsReadSelector}
 
 pub scalar_chars : (bs : List ℕ) → IsUtf8 bs → scalars (chars bs) ≡ true
 scalar_chars bs (cs, (s, e)) =

@@ -10,7 +10,7 @@ use Rattle.text_base.specs.Text.{run_end, IsPlace}
 use Rattle.text_base.proofs.Runs.{run_end_step}
 use Rattle.text_base.proofs.Boundaries.{past_ascii}
 use Rattle.css_printed.specs.Literals.{is_apostrophe, quote_of, quoted_runs}
-use Rattle.css_translate.specs.Runs.{WritesRun, InApostrophes}
+use Rattle.css_translate.specs.inner.Runs.{WritesRun, InApostrophes}
 use Rattle.css_printed.proofs.LiteralRuns.{same_quote, run_of, first_run}
 
 -- the run that begins at a place, from its first byte

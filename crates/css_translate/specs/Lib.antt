@@ -1,3 +1,1 @@
-pub mod Inner
-pub mod Read
-pub mod Runs
+pub mod inner

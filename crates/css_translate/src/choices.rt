@@ -2,7 +2,7 @@ ghost use Rattle.std.specs.Prelude.{◌≡◌, ◌++◌, OnOk, string_bytes, fla
 ghost use Rattle.css_selectors.specs.WellMade.{innermost};
 ghost use Rattle.css_printed.specs.Names.{element_text};
 ghost use Rattle.css_printed.specs.TestTexts.{choice, path_text, test_said, compound_text, part_steps, relative_text, simple_text};
-ghost use Rattle.css_translate.specs.Inner.{link_text, or_text, step_at};
+ghost use Rattle.css_translate.specs.inner.Pieces.{link_text, or_text, step_at};
 
 use crate::languages::push_lang;
 use crate::names::push_element;

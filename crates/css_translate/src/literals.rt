@@ -2,7 +2,7 @@ ghost use Rattle.std.specs.Prelude.{◌≡◌, ◌≢◌, ◌++◌, ◌<◌, ◌
 ghost use Rattle.std.specs.List.{list_any};
 ghost use Rattle.text_base.specs.Text.{IsPlace, run_end, is_not_byte};
 ghost use Rattle.css_printed.specs.Literals.{is_apostrophe, is_double, quoted_runs, quoted, listed, literal_text};
-ghost use Rattle.css_translate.specs.Runs.{WritesRun, further};
+ghost use Rattle.css_translate.specs.inner.Runs.{WritesRun, further};
 
 use crate::pushing::{push, push_all};
 use std::alloc::Global;

@@ -2,8 +2,8 @@ ghost use Rattle.std.specs.Prelude.{◌≡◌, ◌++◌, ◌≤◌, ◌<◌, ◌
 ghost use Rattle.css_selectors.specs.WellMade.{WellMade};
 ghost use Rattle.css_printed.specs.Printed.{joined, tail_text, parts_text, selector_text, printed};
 ghost use Rattle.css_printed.specs.Promise.{KeepsMeaning};
-ghost use Rattle.css_translate.specs.Inner.{further_text};
-ghost use Rattle.xpath_parser.specs.Reading.{most_bytes};
+ghost use Rattle.css_translate.specs.inner.Pieces.{further_text};
+ghost use Rattle.xpath_lexer.specs.Places.{most_xpath};
 
 use crate::choices::push_part;
 use crate::names::push_attribute;
@@ -12,9 +12,7 @@ use crate::texts::read_list;
 use css_selectors::{Dialect, Part, Selector, SelectorList, Tail};
 use std::alloc::Global;
 use text_base::{NoMemory, SelectorFault};
-
-/// The most bytes of an XPath text.
-const MOST_BYTES: usize = 1_048_576;
+use xpath_lexer::XPATH_LIMIT;
 
 fn push_parts(
     alloc: Global,
@@ -118,14 +116,14 @@ pub fn translate(
     requires { WellMade list.now }
     ensures text { IfOk result (λ t. string_bytes t ≡ printed dialect list.now) }
     ensures meaning { IfOk result (λ t. KeepsMeaning dialect list.now (string_bytes t)) }
-    ensures short { IfOk result (λ t. length (string_bytes t) ≤ most_bytes) }
+    ensures short { IfOk result (λ t. length (string_bytes t) ≤ most_xpath) }
     ensures fault { IfErr result (λ e. (e ≡ SelectorFault.Memory) ⊎ (e ≡ SelectorFault.XPathLong)) }
-    ensures long { result ≡ Err SelectorFault.XPathLong → most_bytes < length (printed dialect list.now) }
+    ensures long { result ≡ Err SelectorFault.XPathLong → most_xpath < length (printed dialect list.now) }
 {
     read_list(list);
     match print_list(alloc, dialect, list) {
         Ok(text) => {
-            if text.len() > MOST_BYTES {
+            if text.len() > XPATH_LIMIT {
                 Err(SelectorFault::XPathLong)
             } else {
                 Ok(text)

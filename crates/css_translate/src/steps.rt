@@ -1,7 +1,7 @@
 ghost use Rattle.std.specs.Prelude.{◌≡◌, ◌++◌, OnOk, string_bytes, codes};
 ghost use Rattle.css_printed.specs.Names.{element_text};
 ghost use Rattle.css_printed.specs.Links.{next_text, first_text, step_text};
-ghost use Rattle.css_translate.specs.Inner.{link_text};
+ghost use Rattle.css_translate.specs.inner.Pieces.{link_text};
 
 use crate::names::push_element;
 use crate::pushing::push;

@@ -1,7 +1,7 @@
 ghost use Rattle.std.specs.Prelude.{◌≡◌, true};
 ghost use Rattle.std.specs.List.{AllByRecursion};
 ghost use Rattle.css_selectors.specs.Texts.{IsText, element_text, test_texts, tail_text, AreTexts};
-ghost use Rattle.css_translate.specs.Read.{IsReadSimple, IsReadCompound, IsReadPart, IsReadRelative, IsReadSelector};
+ghost use Rattle.css_translate.specs.inner.Read.{IsReadSimple, IsReadCompound, IsReadPart, IsReadRelative, IsReadSelector};
 
 use css_selectors::{Compound, Part, Relative, Selector, SelectorList, Simple, Tail, Test};
 use text_base::Txt;

@@ -4,7 +4,7 @@ use Rattle.css_selectors.specs.declared.selector.Compound.{Compound}
 use Rattle.css_selectors.specs.declared.selector.Part.{Part}
 use Rattle.css_selectors.specs.declared.selector.Relative.{Relative}
 use Rattle.css_printed.specs.TestTexts.{choice, path_text, test_said, compound_text, part_steps, relative_text}
-use Rattle.css_translate.specs.Inner.{or_text, step_at}
+use Rattle.css_translate.specs.inner.Pieces.{or_text, step_at}
 use Rattle.css_translate.proofs.Pushes.{same_piece}
 use Rattle.css_translate.proofs.Said as said
 use Rattle.css_translate.proofs.choices.+printing.Goals as goal

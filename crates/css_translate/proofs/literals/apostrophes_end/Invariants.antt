@@ -1,5 +1,5 @@
 use Rattle.std.proofs.Common.{◌≡◌, ◌-◌, length}
-use Rattle.css_translate.specs.Runs.{InApostrophes}
+use Rattle.css_translate.specs.inner.Runs.{InApostrophes}
 use Rattle.css_translate.proofs.literals.apostrophes_end.Given as goal
 
 abbrev pub invariant-loop-at : goal.invariant-loop-at

@@ -1,7 +1,7 @@
 use Rattle.std.proofs.Common.{◌≡◌, ◌++◌, ◌≤◌, ◌-◌, length, drop, string_bytes}
 use Rattle.text_base.specs.Text.{IsPlace}
 use Rattle.css_printed.specs.Literals.{quoted_runs, listed}
-use Rattle.css_translate.specs.Runs.{further}
+use Rattle.css_translate.specs.inner.Runs.{further}
 use Rattle.css_translate.proofs.literals.push_runs.Given as goal
 
 abbrev pub invariant-loop-at : goal.invariant-loop-at

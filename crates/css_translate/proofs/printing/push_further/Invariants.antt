@@ -1,6 +1,6 @@
 use Rattle.std.proofs.Common.{◌≡◌, ◌++◌, take, string_bytes}
 use Rattle.std.specs.List.{flat_map}
-use Rattle.css_translate.specs.Inner.{further_text}
+use Rattle.css_translate.specs.inner.Pieces.{further_text}
 use Rattle.css_translate.proofs.printing.push_further.Given as goal
 
 abbrev pub invariant-loop-selector : goal.invariant-loop-selector

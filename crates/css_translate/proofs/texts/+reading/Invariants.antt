@@ -1,6 +1,6 @@
 use Rattle.std.proofs.Common.{take}
 use Rattle.std.specs.List.{AllByRecursion}
-use Rattle.css_translate.specs.Read.{IsReadSimple, IsReadCompound, IsReadPart, IsReadRelative}
+use Rattle.css_translate.specs.inner.Read.{IsReadSimple, IsReadCompound, IsReadPart, IsReadRelative}
 use Rattle.css_translate.proofs.texts.+reading.Given as goal
 
 abbrev pub invariant-read_simples-loop-simple : goal.invariant-read_simples-loop-simple
