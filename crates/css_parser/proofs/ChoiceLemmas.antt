@@ -1,5 +1,6 @@
 -- Choices: where they end, and more room than is needed changes nothing.
 use Rattle.std.proofs.Common.{◌≡◌, ℕ, zero, suc, ◌+◌, ◌-◌, ◌<◌, ◌≤◌, Bool, true, false, cond, List, [], ◌∷◌, ◌++◌, length, get_or, refl, sym, ◌∙◌, ap, subst, arith}
+use Rattle.std.proofs.lemmas.Bool.{and_parts}
 use Rattle.std.specs.Prelude.{◌==◌, ◌≢◌, ◌↔◌, ◌&&◌, ◌||◌, IsTrue, Option, Some, None}
 use Rattle.std.proofs.lemmas.Bool.Decides.{nat_tests}
 use Rattle.css_lexer.specs.declared.tokens.CssKind.TheVariants as kind
@@ -182,13 +183,9 @@ module _ (text : List ℕ) (ts : List CssToken) where
   word_if true o w e = refl
   word_if false o w e = cc
 
-  second : (a b : Bool) → (a && b) ≡ true → b ≡ true
-  second true b h = h
-  second false b h = cc
-
   pub word_inside : (i : ℕ) (w : Word) → word_at ts i ≡ Some w → i + 1 < length ts
   unfolding word_at
-  word_inside i w e = stands_within ts (i + 1) 2 (omega arith) (second (stands kind.Colon ts i) (stands kind.Function ts (i + 1)) (word_if (stands kind.Colon ts i && stands kind.Function ts (i + 1)) _ w e))
+  word_inside i w e = stands_within ts (i + 1) 2 (omega arith) (and_parts (stands kind.Colon ts i) (stands kind.Function ts (i + 1)) (word_if (stands kind.Colon ts i && stands kind.Function ts (i + 1)) _ w e)).1
 
   deep_read_ends : (i : ℕ) (o : Option ListRead) → EndsList ts (i + 2) o → EndsForm ts i (deep_read o)
   deep_read_ends i None h = tt

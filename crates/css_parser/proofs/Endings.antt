@@ -1,7 +1,7 @@
 -- What is read ends behind its place, and not behind the last token.
-use Rattle.std.proofs.Common.{◌≡◌, ℕ, ◌+◌, ◌<◌, ◌≤◌, Bool, true, false, cond, List, length, drop, refl, arith, eqb-true, inl, inr, ◌⊎◌, length-drop}
-use Rattle.std.specs.Prelude.{◌==◌, ◌&&◌, ◌||◌, nat_lt, Option, Some, None}
-use Rattle.std.proofs.lemmas.List.Sums.{prefix_len-le-length}
+use Rattle.std.proofs.Common.{◌≡◌, ℕ, ◌+◌, ◌<◌, ◌≤◌, Bool, true, false, cond, List, length, refl, arith, eqb-true, inl, inr}
+use Rattle.std.proofs.lemmas.Bool.{and_parts, or_cases}
+use Rattle.std.specs.Prelude.{◌==◌, ◌&&◌, nat_lt, Option, Some, None}
 use borrow.Author.Tests.{ltb-true}
 use Rattle.css_selectors.specs.declared.selector.Nth.{Nth}
 use Rattle.css_selectors.specs.declared.selector.Op.{Op}
@@ -12,25 +12,12 @@ use Rattle.css_parser.specs.declared.pieces.Piece.{Piece}
 use Rattle.css_parser.specs.declared.pieces.Read.{Read}
 use Rattle.css_parser.specs.declared.pieces.ElementRead.{ElementRead}
 use Rattle.css_parser.specs.declared.pieces.LinkRead.{LinkRead}
-use Rattle.css_parser.specs.Places.{code_at, stands, skip, is_name, is_word, is_space, text_at}
+use Rattle.css_parser.specs.Places.{code_at, stands, skip, is_name, is_word, text_at}
 use Rattle.css_parser.specs.Names.{nth_called}
 use Rattle.css_parser.specs.Simples as spec
 use Rattle.css_parser.specs.Links.{combinator}
 use Rattle.css_parser.specs.inner.Reading.{IsBehind, EndsElement, Ends, EndsLink}
-use Rattle.css_parser.proofs.PlaceLemmas.{code_within, skip_order}
-
-both_true : (a b : Bool) → (a && b) ≡ true → (a ≡ true) × (b ≡ true)
-both_true true true h = (refl, refl)
-both_true true false h = cc
-both_true false b h = cc
-
-either_true : (a b : Bool) → (a || b) ≡ true → (a ≡ true) ⊎ (b ≡ true)
-either_true true b h = inl refl
-either_true false b h = inr h
-
-pub skip_within : (ts : List CssToken) (i : ℕ) → i ≤ length ts → skip ts i ≤ length ts
-unfolding skip
-skip_within ts i low = omega (arith, prefix_len-le-length is_space (drop i ts), length-drop i ts)
+use Rattle.css_parser.proofs.PlaceLemmas.{code_within, skip_order, skip_within}
 
 close_order : (ts : List CssToken) (i : ℕ) → i ≤ spec.round_close ts i
 unfolding spec.round_close
@@ -46,10 +33,10 @@ module _ (text : List ℕ) (ts : List CssToken) where
   here n i some h = code_within ts i (omega (arith, eqb-true (code_at ts i) n h))
 
   name_here : (i : ℕ) → is_name ts i ≡ true → i < length ts
-  name_here i h = elim (either_true (stands kind.Ident ts i) (stands kind.Star ts i) h) [ inl a ↦ here 3 i (omega arith) a | inr b ↦ here 13 i (omega arith) b ]
+  name_here i h = elim (or_cases (stands kind.Ident ts i) (stands kind.Star ts i) h) [ inl a ↦ here 3 i (omega arith) a | inr b ↦ here 13 i (omega arith) b ]
 
   word_here : (i : ℕ) → is_word ts i ≡ true → i < length ts
-  word_here i h = elim (either_true (stands kind.Ident ts i) (stands kind.Quoted ts i) h) [ inl a ↦ here 3 i (omega arith) a | inr b ↦ here 5 i (omega arith) b ]
+  word_here i h = elim (or_cases (stands kind.Ident ts i) (stands kind.Quoted ts i) h) [ inl a ↦ here 3 i (omega arith) a | inr b ↦ here 5 i (omega arith) b ]
 
   behind : (i j : ℕ) → i ≤ j → j < length ts → IsBehind ts i (j + 1)
   behind i j low inside = record { moves = omega arith; within = omega arith }
@@ -81,7 +68,7 @@ module _ (text : List ℕ) (ts : List CssToken) where
   compared_ends a prefixed name (Some o) i low =
       let k : ℕ = skip ts i in
       let m : ℕ = skip ts (k + 1) in
-      ends_if a (is_word ts k && stands kind.CloseSquare ts m) _ _ (λ h. behind a m (omega (arith, skip_order ts i, skip_order ts (k + 1))) (here 17 m (omega arith) (both_true (is_word ts k) (stands kind.CloseSquare ts m) h).1)) (λ _. tt)
+      ends_if a (is_word ts k && stands kind.CloseSquare ts m) _ _ (λ h. behind a m (omega (arith, skip_order ts i, skip_order ts (k + 1))) (here 17 m (omega arith) (and_parts (is_word ts k) (stands kind.CloseSquare ts m) h).1)) (λ _. tt)
 
   name_ends : (a : ℕ) (prefixed : Bool) (name : List ℕ) (i : ℕ) → a ≤ i → Ends ts a (spec.behind_name ts prefixed name i)
   name_ends a prefixed name i low =

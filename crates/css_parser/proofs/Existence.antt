@@ -28,9 +28,9 @@ use Rattle.css_parser.specs.inner.Reading.{EndsElement, EndsForm, EndsLink, IsFo
 use Rattle.css_parser.specs.Lists.{list_of}
 use Rattle.css_parser.specs.Refusals.{refusal}
 use Rattle.css_parser.specs.Selecting.{Accepts, IsRefused, IsFault}
-use Rattle.css_parser.proofs.Endings.{skip_within, element_ends, combinator_ends}
+use Rattle.css_parser.proofs.Endings.{element_ends, combinator_ends}
 use Rattle.css_parser.proofs.ChoiceLemmas.{simple_ends}
-use Rattle.css_parser.proofs.PlaceLemmas.{skip_order}
+use Rattle.css_parser.proofs.PlaceLemmas.{skip_order, skip_within}
 use Rattle.css_parser.proofs.GrammarLemmas.{with_element, without_element, nothing, no_combinator, no_after, after_combinator, selector_begun, selector_push}
 use Rattle.css_parser.proofs.SelectingLemmas.{IsRefusal, MayRefuse, list_kind}
 use Rattle.css_parser.proofs.ListLemmas.{begun, went_on, finished, no_selector, no_comma}

@@ -1,5 +1,6 @@
 -- What simple selectors and pseudo-elements are where they are read, and where they end.
 use Rattle.std.proofs.Common.{◌≡◌, ℕ, ◌+◌, ◌<◌, ◌≤◌, Bool, true, false, ◌&&◌, ◌||◌, cond, List, [], length, refl, sym, subst, arith, zero, suc, pos, neg_ℤ}
+use Rattle.std.proofs.lemmas.Bool.{and_parts}
 use Rattle.std.specs.Prelude.{◌==◌, Option, Some, None, nat_lt, nat_abs, codes}
 use Rattle.std.proofs.lemmas.Bool.Decides.{nat_tests}
 use Rattle.css_lexer.proofs.EscapeLemmas.{cases_if}
@@ -45,11 +46,6 @@ Good ts i (Some r) = IsGood ts i r.piece r.end
 
 either_within : (ts : List CssToken) (i m n : ℕ) → 0 < m → 0 < n → ((code_at ts i == m) || (code_at ts i == n)) ≡ true → i < length ts
 either_within ts i m n a b h = code_within ts i (let e : 0 < code_at ts i = grind (arith, nat_tests) in e)
-
-both : (a b : Bool) → (a && b) ≡ true → (a ≡ true) × (b ≡ true)
-both true true h = (refl, refl)
-both true false h = cc
-both false b h = cc
 
 module _ (ts : List CssToken) where
   -- a reading that ends behind a token that stands at j
@@ -102,7 +98,7 @@ module _ (ts : List CssToken) where
   compared_good prefixed name (Some o) i c =
       let k = skip ts i in let m = skip ts (k + 1) in
       if_read i (is_word ts k && stands kind.CloseSquare ts m) _ (λ h.
-      let close = (both (is_word ts k) (stands kind.CloseSquare ts m) h).1 in
+      let close = (and_parts (is_word ts k) (stands kind.CloseSquare ts m) h).1 in
       let low = skip_order ts i in let more = skip_order ts (k + 1) in
       ends i m _ (omega arith) (stands_within ts m 17 (omega arith) close) (attribute_fits prefixed name o _ (any_value o _ c)))
 
@@ -148,7 +144,7 @@ module _ (ts : List CssToken) where
 
   nth_fits : (position : Nth) (l : Line) → FitsPiece (s.nth_piece position l)
   nth_fits position l = cases_if (s.is_small l.a && s.is_small l.b) (piece.Plain (plain.Nth position (s.signed l.a) (s.signed l.b))) (piece.Large position) (FitsPiece)
-      (λ h. let sizes = both (s.is_small l.a) (s.is_small l.b) h in (small l.a sizes.0, small l.b sizes.1)) (λ _. tt)
+      (λ h. let sizes = and_parts (s.is_small l.a) (s.is_small l.b) h in (small l.a sizes.0, small l.b sizes.1)) (λ _. tt)
 
   round_order : (i : ℕ) → i ≤ s.round_close ts i
   unfolding s.round_close
