@@ -56,6 +56,7 @@ pub mod SpellTests
 pub mod SpellValues
 pub mod Spelling
 pub mod TemplateTerms
+pub mod Swaps
 pub mod Theorem
 pub mod Typed
 pub mod TypesChoices

@@ -3,8 +3,8 @@ use Rattle.std.proofs.Common.{◌≡◌, ◌≢◌, refl, ℕ, zero, suc, ◌+�
 use Rattle.std.specs.Prelude.{pos}
 use Rattle.std.specs.List.{list_any, range_with_len}
 use Rattle.std.specs.Ordering.{int_eq}
-use Rattle.std.specs.Cmp.{signed_Decides, both_ways}
-use Rattle.std.proofs.lemmas.Bool.{and_parts, eqb-true, eq-eqb, ltb-true, false_from_ne_true}
+use Rattle.std.specs.Cmp.{signed_Decides}
+use Rattle.std.proofs.lemmas.Bool.{and_parts, eqb-true, ltb-true, false_from_ne_true}
 use Rattle.std.proofs.lemmas.Bool.Decides.{eqb_tells}
 use Rattle.doc_model.specs.declared.Axis.TheVariants as axis
 use Rattle.doc_model.specs.declared.NodeTest.TheVariants as node
@@ -19,6 +19,7 @@ use Rattle.xpath_parser.specs.declared.expression.Expr.{Expr}
 use Rattle.xpath_parser.specs.Denote.{has, keeps, kept, kept_from, denote, walk_of}
 use Rattle.xpath_parser.proofs.Equations as eq
 use Rattle.css_printed.specs.inner.Predicates.{step, number}
+use Rattle.css_printed.proofs.Swaps.{flip, swap}
 use Rattle.css_printed.proofs.Links.{axis_later}
 use Rattle.css_printed.proofs.PathsKept.{Keep}
 
@@ -117,9 +118,6 @@ module _ (doc : Document) where
   above_zero : (x y : ℕ) → ltb x y ≡ true → ltb 0 y ≡ true
   above_zero x y h = let less : x < y = ltb-true x y h in lt-ltb 0 y (omega arith)
 
-  flip : (a b : ℕ) → eqb a b ≡ eqb b a
-  flip a b = both_ways _ _ (λ h. eq-eqb b a (sym (eqb-true a b h))) (λ h. eq-eqb a b (sym (eqb-true b a h)))
-
   abbrev follows : ℕ → ℕ → Bool
   follows x z = on_axis doc axis.FollowingSibling x z && is_element doc z
 
@@ -157,12 +155,6 @@ module _ (doc : Document) where
 
   next_regroup : (q f n link e h : Bool) → (f ≡ true → e ≡ true) → (h ≡ true → e ≡ true) → (e ≡ true → (f && n) ≡ link) → (e ≡ true → q ≡ h) → (q && (f && n)) ≡ (link && h)
   next_regroup q f n link true h a b c k = rw (c refl, k refl) (swap h link)
-    where
-      swap : (a b : Bool) → (a && b) ≡ (b && a)
-      swap true true = refl
-      swap true false = refl
-      swap false true = refl
-      swap false false = refl
   next_regroup q false n link false false a b c k = lists.and_false q ∙ sym (lists.and_false link)
   next_regroup q true n link false h a b c k = let no = a refl in cc
   next_regroup q false n link false true a b c k = let no = b refl in cc

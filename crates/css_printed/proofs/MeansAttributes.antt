@@ -3,8 +3,7 @@ use Rattle.std.proofs.Common.{◌≡◌, refl, ℕ, ◌<◌, Bool, true, false, 
 use Rattle.std.specs.Prelude.{codes}
 use Rattle.std.specs.List.{list_any}
 use Rattle.std.specs.Str.{bytes_eq}
-use Rattle.std.specs.Cmp.{both_ways}
-use Rattle.std.proofs.lemmas.Bool.{and_parts, eqb-true, eq-eqb, ltb-true, cases_lt}
+use Rattle.std.proofs.lemmas.Bool.{and_parts, eqb-true, ltb-true, cases_lt}
 use Rattle.std.proofs.lemmas.List.{get_or_past}
 use Rattle.text_base.specs.Strings.{is_empty, starts_with, contains}
 use Rattle.doc_model.specs.declared.Kind.{Kind}
@@ -24,6 +23,7 @@ use Rattle.xpath_parser.specs.declared.expression.Infix.TheVariants as infix_of
 use Rattle.xpath_parser.specs.Conversions.{is_any, text_of_rows}
 use Rattle.xpath_parser.specs.Denote.{has}
 use Rattle.css_printed.specs.inner.Predicates.{literal, equals, both, number, dash_predicate, prefix_predicate, substring_predicate, suffix_predicate, word_predicate, joins}
+use Rattle.css_printed.proofs.Swaps.{flip}
 use Rattle.css_printed.proofs.PathsKept.{Is}
 use Rattle.css_printed.proofs.MeansValues.{Value_at, is_truth, is_nodes, is_never, any_kept, at_two, at_both, at_either, at_call_one, at_call_two, at_call_three, at_number}
 use Rattle.css_printed.proofs.MeansNames.{at_text}
@@ -36,9 +36,6 @@ use Rattle.xpath_values.specs.Numbers.{whole, num_sub}
 use Rattle.text_base.specs.Strings.{ends_with, is_among, runs}
 
 -- ---- texts
-
-pub flip : (a b : ℕ) → eqb a b ≡ eqb b a
-flip a b = both_ways _ _ (λ h. eq-eqb b a (sym (eqb-true a b h))) (λ h. eq-eqb a b (sym (eqb-true b a h)))
 
 -- the same tests by their two names
 pub begins_starts : (s t : List ℕ) → begins s t ≡ starts_with s t

@@ -27,11 +27,12 @@ use Rattle.xpath_parser.proofs.Equations.{at_made}
 use Rattle.xpath_parser.specs.declared.expression.Start.TheVariants.{Here}
 use Rattle.css_printed.specs.inner.Predicates.{step, path, number, literal, plain_attribute, lang_begins, lang_predicate}
 use Rattle.text_base.proofs.Lists.{filter_twice}
+use Rattle.css_printed.proofs.Swaps.{flip, swap}
 use Rattle.css_printed.proofs.PathsKept.{Is, Keep, keep_one}
 use Rattle.css_printed.proofs.MeansLower.{translated_lower}
 use Rattle.css_printed.proofs.MeansValues.{Value_at, is_truth, is_nodes, any_kept, at_call_one, at_call_two, at_call_three}
 use Rattle.css_printed.proofs.MeansNames.{at_text, at_plain_attribute}
-use Rattle.css_printed.proofs.MeansAttributes.{IsOf, is_of, flip, found, value_is, found_is, attribute_value, begins_starts}
+use Rattle.css_printed.proofs.MeansAttributes.{IsOf, is_of, found, value_is, found_is, attribute_value, begins_starts}
 use Rattle.css_printed.proofs.MeansParts.{self_any}
 use Rattle.css_printed.proofs.Paths.{found_in}
 use Rattle.doc_model.specs.Axes.{on_axis}
@@ -201,12 +202,6 @@ module _ (doc : Document) where
       turned : filter (λ y. has_attribute doc y html_name) (reverse (filter (upward x) (rows doc))) ≡ reverse (filter (gives_language doc Html x) (rows doc))
       turned = filter_reversed (λ y. has_attribute doc y html_name) (filter (upward x) (rows doc))
           ∙ ap reverse (filter_twice (upward x) (λ y. has_attribute doc y html_name) (rows doc) ∙ lists.filter_same _ _ (λ y. gives_same is x y) (rows doc))
-
-  swap : (a b : Bool) → (a && b) ≡ (b && a)
-  swap true true = refl
-  swap true false = refl
-  swap false true = refl
-  swap false false = refl
 
   at_html : IsDocument doc → (v : List ℕ) (x : ℕ) → Value_at doc (path axis.AncestorOrSelf node.AnyName (plain_attribute html_name ∷ number 1 ∷ lang_begins v ∷ [])) x
       (Nodes (filter (λ y. has y (filter (says Html v) (nearest Html x)) || false) (rows doc)))

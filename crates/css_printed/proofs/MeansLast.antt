@@ -2,7 +2,7 @@
 use Rattle.std.proofs.Common.{◌≡◌, ◌≢◌, refl, ℕ, zero, suc, ◌+◌, ◌<◌, ◌≤◌, Bool, true, false, ◌&&◌, ◌||◌, not, cond, eqb, ltb, List, [], ◌∷◌, ◌++◌, length, ap, sym, ◌∙◌, filter, reverse, arith, ◌⊎◌, inl, inr, lt-ltb}
 use Rattle.std.specs.List.{list_any, range_with_len}
 use Rattle.std.proofs.lemmas.List.{reverse-append}
-use Rattle.std.proofs.lemmas.Bool.{eqb-true, le-ltb, false_from_ne_true}
+use Rattle.std.proofs.lemmas.Bool.{or_parts, eqb-true, le-ltb, false_from_ne_true}
 use Rattle.std.proofs.lemmas.Bool.Decides.{eqb_tells}
 use Rattle.doc_model.specs.Document.{Document, rows}
 use Rattle.css_meaning.proofs.ListTests as lists
@@ -55,15 +55,11 @@ all_above p a (suc n) y h =
     ∙ ap (λ b. b || list_any (λ z. p z && ltb y z) (range_with_len (a + 1) n)) (lists.and_true (p a))
     ∙ ap (λ b. p a || b) (all_above p (a + 1) n y (omega arith))
 
-neither : (a b : Bool) → (a || b) ≡ false → (a ≡ false) × (b ≡ false)
-neither true b h = cc
-neither false b h = (refl, h)
-
 -- fewer pass two tests
 fewer : (p q : ℕ → Bool) (xs : List ℕ) → list_any p xs ≡ false → list_any (λ z. p z && q z) xs ≡ false
 fewer p q [] h = refl
 fewer p q (x ∷ xs) h =
-    let parts : (p x ≡ false) × (list_any p xs ≡ false) = neither (p x) (list_any p xs) h in
+    let parts : (p x ≡ false) × (list_any p xs ≡ false) = or_parts (p x) (list_any p xs) h in
     ap (λ b. (b && q x) || list_any (λ z. p z && q z) xs) parts.0 ∙ fewer p q xs parts.1
 
 one_passes : (p : ℕ → Bool) (xs : List ℕ) (y : ℕ) → list_any p xs ≡ false → (p y && has y xs) ≡ false

@@ -24,6 +24,7 @@ use Rattle.xpath_parser.specs.Denote.{has, walk_of}
 use Rattle.css_printed.specs.inner.LinkPredicates.{axis_of, link_test, link_brackets, next_brackets}
 use Rattle.css_printed.specs.inner.Predicates.{step, node_test, name_brackets, elements}
 use Rattle.css_printed.specs.inner.TestPredicates.{simple_predicates}
+use Rattle.css_printed.proofs.Swaps.{swap}
 use Rattle.css_printed.proofs.Links.{near, principal_by, axis_near, axis_descendant, axis_child, axis_later}
 use Rattle.css_printed.proofs.PathsKept.{Is, Keep, keep_none, keep_one, keep_then, step_has}
 use Rattle.css_printed.proofs.LinksNext.{next_has}
@@ -33,13 +34,7 @@ use Rattle.css_printed.proofs.Means.{any_row, StepGives, Further, AllGive}
 use Rattle.css_printed.proofs.PrintedAt.{asked_at_part}
 
 regrouped : (on l e f k q n : Bool) → (e ≡ true → on ≡ l) → (f ≡ true → e ≡ true) → (f && k) ≡ (e && n) → ((k && q) && (on && f)) ≡ (l && (e && (n && q)))
-regrouped on l true true k q n same to_e kept = ap (λ b. (b && q) && (on && true)) kept ∙ ap (λ b. (n && q) && b) (lists.and_true on ∙ same refl) ∙ turn (n && q) l
-  where
-    turn : (a b : Bool) → (a && b) ≡ (b && a)
-    turn true true = refl
-    turn true false = refl
-    turn false true = refl
-    turn false false = refl
+regrouped on l true true k q n same to_e kept = ap (λ b. (b && q) && (on && true)) kept ∙ ap (λ b. (n && q) && b) (lists.and_true on ∙ same refl) ∙ swap (n && q) l
 regrouped on l false true k q n same to_e kept = let no : false ≡ true = to_e refl in cc
 regrouped on l true false k q n same to_e kept = ap (λ b. (k && q) && b) (lists.and_false on) ∙ lists.and_false (k && q) ∙ sym (lists.and_false l) ∙ ap (λ b. l && (b && q)) kept
 regrouped on l false false k q n same to_e kept = ap (λ b. (k && q) && b) (lists.and_false on) ∙ lists.and_false (k && q) ∙ sym (lists.and_false l)
@@ -50,12 +45,6 @@ element_row doc x is = elim (cases_lt x (length doc)) [
   | inl within ↦ in_rows doc x within
   | inr past ↦ absurd (let none : false ≡ true = sym (ap (λ (r : Row). is_element_kind r.kind) (get_or_past doc x no_row past)) ∙ is in cc)
 ]
-
-swap : (a b : Bool) → (a && b) ≡ (b && a)
-swap true true = refl
-swap true false = refl
-swap false true = refl
-swap false false = refl
 
 -- a test of the row itself
 pub self_any : (doc : Document) (p : ℕ → Bool) (x : ℕ) → has x (rows doc) ≡ true → list_any (λ y. eqb y x && p y) (rows doc) ≡ p x

@@ -20,13 +20,13 @@ use Rattle.css_meaning.proofs.ListTests as lists
 use Rattle.text_base.proofs.PartLemmas.{same_means}
 use Rattle.xpath_values.specs.declared.value.Value.TheVariants.{Nodes}
 use Rattle.css_printed.specs.inner.Predicates.{siblings, nth_predicates}
+use Rattle.css_printed.proofs.Swaps.{flip}
 use Rattle.css_printed.proofs.Links.{is_no_attribute}
 use Rattle.css_printed.proofs.PathsKept.{Keep, keep_both, keep_same}
 use Rattle.css_printed.proofs.MeansValues.{Value_at, at_bare_step}
 use Rattle.css_printed.proofs.MeansNames.{at_elements}
 use Rattle.css_printed.proofs.MeansParts.{is_named_element}
 use Rattle.css_printed.proofs.MeansPseudo.{element_some}
-use Rattle.css_printed.proofs.MeansAttributes.{flip}
 use Rattle.css_printed.proofs.MeansNth.{nth_keeps}
 use Rattle.css_printed.proofs.MeansPositions.{conditions_nth}
 use Rattle.std.proofs.lemmas.Bool.Decides.{nat_tests}

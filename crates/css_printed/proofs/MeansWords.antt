@@ -2,14 +2,14 @@
 use Rattle.std.proofs.Common.{◌≡◌, refl, ℕ, Bool, true, false, ◌&&◌, ◌||◌, cond, eqb, List, [], ◌∷◌, ◌++◌, ap, sym, ◌∙◌, append_assoc}
 use Rattle.std.specs.List.{list_any, join_with_byte}
 use Rattle.std.specs.Str.{bytes_eq}
-use Rattle.std.specs.Cmp.{both_ways}
-use Rattle.std.proofs.lemmas.Bool.{eqb-true, eq-eqb}
+use Rattle.std.proofs.lemmas.Bool.{or_parts}
 use Rattle.std.proofs.lemmas.List.{append-nil}
 use Rattle.text_base.specs.Text.{is_space5}
 use Rattle.text_base.specs.Strings.{is_empty, starts_with, contains, is_among, put, pieces, not_empty, runs}
 use Rattle.css_meaning.specs.Limits.{is_form_feed}
 use Rattle.xpath_values.specs.Numbers.{is_space4}
 use Rattle.xpath_values.specs.Strings.{words_after, words, normalized, is_empty as no_text}
+use Rattle.css_printed.proofs.Swaps.{flip}
 
 -- ---- the words are the runs
 
@@ -73,13 +73,9 @@ same_space c h = spaces (eqb c 32) (eqb c 9) (eqb c 10) (eqb c 13) (eqb c 12) h
 pieces_same : (x : List ℕ) → list_any is_form_feed x ≡ false → pieces is_space4 x ≡ pieces is_space5 x
 pieces_same [] h = refl
 pieces_same (c ∷ x) h =
-    let parts : (is_form_feed c ≡ false) × (list_any is_form_feed x ≡ false) = neither _ _ h in
+    let parts : (is_form_feed c ≡ false) × (list_any is_form_feed x ≡ false) = or_parts _ _ h in
     ap (λ b. cond b ([] ∷ pieces is_space4 x) (put c (pieces is_space4 x))) (same_space c parts.0)
     ∙ ap (λ ws. cond (is_space5 c) ([] ∷ ws) (put c ws)) (pieces_same x parts.1)
-  where
-    neither : (a b : Bool) → (a || b) ≡ false → (a ≡ false) × (b ≡ false)
-    neither true b h = cc
-    neither false b h = (refl, h)
 
 pub words_same : (x : List ℕ) → list_any is_form_feed x ≡ false → words x ≡ runs is_space5 x
 words_same x h = words_runs [] x ∙ ap not_empty (pieces_whole is_space4 x ∙ pieces_same x h)
@@ -90,25 +86,18 @@ words_same x h = words_runs [] x ∙ ap not_empty (pieces_whole is_space4 x ∙ 
 abbrev Whole : List ℕ → Type 0
 Whole w = list_any (λ c. eqb c 32) w ≡ false
 
-no_space : (a b : Bool) → (a || b) ≡ false → (a ≡ false) × (b ≡ false)
-no_space true b h = cc
-no_space false b h = (refl, h)
-
-flip : (a b : ℕ) → eqb a b ≡ eqb b a
-flip a b = both_ways _ _ (λ h. eq-eqb b a (sym (eqb-true a b h))) (λ h. eq-eqb a b (sym (eqb-true b a h)))
-
 -- at the front of a word and a space stand v and a space where the word is v
 front_is : (w v r : List ℕ) → Whole w → Whole v → starts_with (w ++ 32 ∷ r) (v ++ 32 ∷ []) ≡ bytes_eq w v
 front_is [] [] r h k = refl
-front_is [] (b ∷ v) r h k = ap (λ t. t && starts_with r (v ++ 32 ∷ [])) (flip 32 b ∙ (no_space _ _ k).0)
-front_is (a ∷ w) [] r h k = ap (λ t. t && starts_with (w ++ 32 ∷ r) []) (no_space _ _ h).0
-front_is (a ∷ w) (b ∷ v) r h k = ap (λ t. eqb a b && t) (front_is w v r (no_space _ _ h).1 (no_space _ _ k).1)
+front_is [] (b ∷ v) r h k = ap (λ t. t && starts_with r (v ++ 32 ∷ [])) (flip 32 b ∙ (or_parts _ _ k).0)
+front_is (a ∷ w) [] r h k = ap (λ t. t && starts_with (w ++ 32 ∷ r) []) (or_parts _ _ h).0
+front_is (a ∷ w) (b ∷ v) r h k = ap (λ t. eqb a b && t) (front_is w v r (or_parts _ _ h).1 (or_parts _ _ k).1)
 
 -- what begins with a space stands behind a word that has none
 past_word : (w x v : List ℕ) → Whole w → contains (w ++ x) (32 ∷ v) ≡ contains x (32 ∷ v)
 past_word [] x v h = refl
 past_word (a ∷ w) x v h =
-    ap (λ t. (t && starts_with (w ++ x) v) || contains (w ++ x) (32 ∷ v)) (no_space _ _ h).0 ∙ past_word w x v (no_space _ _ h).1
+    ap (λ t. (t && starts_with (w ++ x) v) || contains (w ++ x) (32 ∷ v)) (or_parts _ _ h).0 ∙ past_word w x v (or_parts _ _ h).1
 
 -- each word with a space behind it
 abbrev spaced : List (List ℕ) → List ℕ
@@ -136,12 +125,12 @@ among_spaced (w ∷ ws) v h k some =
 -- ---- words have no space
 
 space_is : (c : ℕ) → is_space5 c ≡ false → eqb c 32 ≡ false
-space_is c h = (no_space (eqb c 32) (eqb c 9) (no_space ((eqb c 32) || (eqb c 9)) (eqb c 10) (no_space (((eqb c 32) || (eqb c 9)) || (eqb c 10)) (eqb c 13) (no_space _ (eqb c 12) h).0).0).0).0
+space_is c h = (or_parts (eqb c 32) (eqb c 9) (or_parts ((eqb c 32) || (eqb c 9)) (eqb c 10) (or_parts (((eqb c 32) || (eqb c 9)) || (eqb c 10)) (eqb c 13) (or_parts _ (eqb c 12) h).0).0).0).0
 
 pub clear_whole : (w : List ℕ) → list_any is_space5 w ≡ false → Whole w
 clear_whole [] h = refl
 clear_whole (c ∷ w) h =
-    let parts : (is_space5 c ≡ false) × (list_any is_space5 w ≡ false) = no_space _ _ h in
+    let parts : (is_space5 c ≡ false) × (list_any is_space5 w ≡ false) = or_parts _ _ h in
     ap (λ b. b || list_any (λ a. eqb a 32) w) (space_is c parts.0) ∙ clear_whole w parts.1
 
 put_whole : (c : ℕ) (ws : List (List ℕ)) → eqb c 32 ≡ false → AllWhole ws → AllWhole (put c ws)
@@ -166,7 +155,7 @@ runs_whole x = some_whole (pieces is_space5 x) (pieces_clear x)
 
 no_words : (v : List ℕ) → is_empty v ≡ false → Whole v → contains (32 ∷ 32 ∷ []) (32 ∷ (v ++ 32 ∷ [])) ≡ false
 no_words [] h k = cc
-no_words (b ∷ v) h k = ap (λ t. (t && starts_with [] (v ++ 32 ∷ [])) || false) (flip 32 b ∙ (no_space _ _ k).0)
+no_words (b ∷ v) h k = ap (λ t. (t && starts_with [] (v ++ 32 ∷ [])) || false) (flip 32 b ∙ (or_parts _ _ k).0)
 
 joined_among : (ws : List (List ℕ)) (v : List ℕ) → AllWhole ws → Whole v → is_empty v ≡ false
     → contains (32 ∷ (join_with_byte 32 ws ++ 32 ∷ [])) (32 ∷ (v ++ 32 ∷ [])) ≡ is_among v ws
