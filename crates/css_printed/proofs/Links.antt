@@ -62,7 +62,7 @@ siblings true false true true same true a b c = let z = c refl in cc
 siblings x0 y0 false ya same less a b c = cc
 siblings x0 y0 true false same less a b c = cc
 
-above_zero : (x y : ℕ) → ltb x y ≡ true → ltb 0 y ≡ true
+pub above_zero : (x y : ℕ) → ltb x y ≡ true → ltb 0 y ≡ true
 above_zero x y h = let less : x < y = ltb-true x y h in lt-ltb 0 y (omega arith)
 
 pub axis_later : (doc : Document) (x y : ℕ) → is_element doc x ≡ true → is_element doc y ≡ true → on_axis doc axis.FollowingSibling x y ≡ linked doc link.Later x y

@@ -20,7 +20,7 @@ use Rattle.xpath_parser.specs.Denote.{has, keeps, kept, kept_from, denote, walk_
 use Rattle.xpath_parser.proofs.Equations as eq
 use Rattle.css_printed.specs.inner.Predicates.{step, number}
 use Rattle.css_printed.proofs.Swaps.{flip, swap}
-use Rattle.css_printed.proofs.Links.{axis_later}
+use Rattle.css_printed.proofs.Links.{axis_later, above_zero}
 use Rattle.css_printed.proofs.PathsKept.{Keep}
 
 -- the first of a list, if there is one
@@ -114,9 +114,6 @@ module _ (doc : Document) where
   apart : (x0 xz z0 zy less lz e : Bool) → x0 ≡ true → xz ≡ zy → (less ≡ true → z0 ≡ true)
       → ((((true && (x0 && xz)) && less) && e) && lz) ≡ (((e && (z0 && zy)) && lz) && less)
   apart x0 xz z0 zy less lz e a b c = rw (a, b) (core z0 zy less lz e c)
-
-  above_zero : (x y : ℕ) → ltb x y ≡ true → ltb 0 y ≡ true
-  above_zero x y h = let less : x < y = ltb-true x y h in lt-ltb 0 y (omega arith)
 
   abbrev follows : ℕ → ℕ → Bool
   follows x z = on_axis doc axis.FollowingSibling x z && is_element doc z

@@ -1,8 +1,8 @@
 -- The conditions on the number of siblings are what `an+b` asks of the position.
-use Rattle.std.proofs.Common.{◌≡◌, refl, sym, ◌∙◌, ap, ℕ, zero, suc, ◌+◌, ◌-◌, ◌*◌, ◌/◌, ◌%◌, ◌^◌, ◌<◌, ◌≤◌, arith, ◌⊎◌, inl, inr, Bool, true, false, ◌&&◌, eqb, ltb, cond, List, [], ◌∷◌}
+use Rattle.std.proofs.Common.{◌≡◌, refl, sym, ◌∙◌, ap, ℕ, zero, suc, ◌+◌, ◌-◌, ◌*◌, ◌/◌, ◌%◌, ◌^◌, ◌<◌, ◌≤◌, arith, inl, inr, Bool, true, false, ◌&&◌, eqb, ltb, cond, List, [], ◌∷◌}
 use Rattle.std.proofs.lemmas.Int.{ints}
 use Rattle.std.specs.Cmp.{both_ways}
-use Rattle.std.proofs.lemmas.Bool.{and_parts, and_from, eqb-true, eq-eqb, ltb-false}
+use Rattle.std.proofs.lemmas.Bool.{cases_lt, and_parts, and_from, eqb-true, eq-eqb, ltb-false}
 use Rattle.std.specs.Prelude.{ℤ, pos, negsuc, ◌-ℤ◌, nat_le}
 use Rattle.std.specs.List.{list_all, AllByRecursion}
 use Rattle.std.proofs.lemmas.Bool.Decides.{nat_tests}
@@ -30,14 +30,11 @@ down_from a m c n some h = ap (λ x. x % a) (sym h) ∙ mul-mod_right a n
 down_to : (a m c : ℕ) → 0 < a → (c + m) % a ≡ 0 → (n : ℕ) × (a * n ≡ c + m)
 down_to a m c some h = ((c + m) / a, grind (arith, div-add-mod (c + m) a))
 
-split_lt : (a b : ℕ) → (a < b) ⊎ (b ≤ a)
-split_lt a b = grind arith
-
 -- two remainders whose sum with one more is divisible are opposite
 opposite_of : (a x y : ℕ) → x < a → y < a → (x + (y + 1)) % a ≡ 0 → x ≡ a - 1 - y
-opposite_of a x y lx ly h = elim (split_lt (x + (y + 1)) a) [
+opposite_of a x y lx ly h = elim (cases_lt (x + (y + 1)) a) [
   | inl lt ↦ absurd (let e : (x + (y + 1)) % a ≡ x + (y + 1) = mod-eq_of_lt lt in omega arith)
-  | inr ge ↦ elim (split_lt a (x + (y + 1))) [
+  | inr ge ↦ elim (cases_lt a (x + (y + 1))) [
     | inl gt ↦ absurd (
         let s : (x + (y + 1)) % a ≡ (x + (y + 1) - a) % a = mod-eq-sub-mod ge in
         let e : (x + (y + 1) - a) % a ≡ x + (y + 1) - a = mod-eq_of_lt (omega arith) in

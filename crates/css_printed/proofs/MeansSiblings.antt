@@ -1,9 +1,10 @@
 -- The siblings that are counted, and the position among them.
-use Rattle.std.proofs.Common.{◌≡◌, refl, ℕ, zero, suc, ◌+◌, ◌^◌, ◌<◌, ◌≤◌, Bool, true, false, ◌&&◌, ◌||◌, not, cond, eqb, ltb, List, [], ◌∷◌, ◌++◌, length, ap, sym, ◌∙◌, filter, arith, lt-ltb, Option, Some, None}
+use Rattle.std.proofs.Common.{◌≡◌, refl, ℕ, suc, ◌^◌, ◌<◌, ◌≤◌, Bool, true, false, ◌&&◌, ◌||◌, not, cond, eqb, ltb, List, [], ◌∷◌, ◌++◌, length, ap, sym, ◌∙◌, filter, arith, lt-ltb, Option, Some, None}
 use Rattle.std.specs.Prelude.{IsSome, ℤ, pos}
-use Rattle.std.specs.List.{list_any, range_with_len}
+use Rattle.std.specs.List.{list_any}
 use Rattle.std.specs.Str.{bytes_eq}
-use Rattle.std.proofs.lemmas.Bool.{and_parts, eqb-true, false_from_ne_true}
+use Rattle.std.proofs.lemmas.List.FromFn.{length-range_with_len}
+use Rattle.std.proofs.lemmas.Bool.{and_parts}
 use Rattle.doc_model.specs.declared.Axis.TheVariants as axis
 use Rattle.doc_model.specs.declared.NodeTest.TheVariants as node
 use Rattle.doc_model.specs.Document.{Document, row, rows, is_element, is_attribute, IsDocument}
@@ -11,6 +12,7 @@ use Rattle.doc_model.specs.Axes.{are_siblings}
 use Rattle.css_selectors.specs.declared.selector.Dialect.{Dialect}
 use Rattle.css_selectors.specs.declared.selector.Nth.{Nth}
 use Rattle.css_selectors.specs.declared.selector.Nth.TheVariants as nth
+use Rattle.css_meaning.proofs.Only.{count_none, first_position}
 use Rattle.css_meaning.specs.Names.{folded, has_name}
 use Rattle.css_meaning.specs.Siblings.{is_sibling, is_of_type, count_before, count_after, position, is_only}
 use Rattle.css_meaning.specs.Limits.{Countable}
@@ -28,7 +30,6 @@ use Rattle.css_printed.proofs.MeansNames.{at_elements}
 use Rattle.css_printed.proofs.MeansParts.{is_named_element}
 use Rattle.css_printed.proofs.MeansPseudo.{element_some}
 use Rattle.css_printed.proofs.MeansNth.{nth_keeps}
-use Rattle.css_printed.proofs.MeansPositions.{conditions_nth}
 use Rattle.std.proofs.lemmas.Bool.Decides.{nat_tests}
 
 kept_length : (p : ℕ → Bool) (xs : List ℕ) → length (filter p xs) ≤ length xs
@@ -37,10 +38,6 @@ kept_length p (x ∷ xs) = elim (p x) as (λ b. length (cond b (x ∷ filter p x
   | true ↦ (let l : length (filter p xs) ≤ length xs = kept_length p xs in omega arith)
   | false ↦ (let l : length (filter p xs) ≤ length xs = kept_length p xs in omega arith)
 ]
-
-range_length : (a n : ℕ) → length (range_with_len a n) ≡ n
-range_length a zero = refl
-range_length a (suc n) = ap suc (range_length (a + 1) n)
 
 -- of two siblings, where the one is an element
 sibling_test : (x0 y0 xa ya same el : Bool) → x0 ≡ true → xa ≡ true → (el ≡ true → ya ≡ true) → ((x0 && (y0 && (xa && (ya && same)))) && el) ≡ (el && (y0 && same))
@@ -77,7 +74,7 @@ module _ (doc : Document) (is : IsDocument doc) (d : Dialect) (el : Option (List
   counted_small c kind x = at kind
     where
       under : (p : ℕ → Bool) → length (filter p (rows doc)) < 2 ^ 53
-      under p = let l : length (filter p (rows doc)) ≤ length (rows doc) = kept_length p (rows doc) in omega (arith, range_length 0 (length doc), c.all_rows)
+      under p = let l : length (filter p (rows doc)) ≤ length (rows doc) = kept_length p (rows doc) in omega (arith, length-range_with_len 0 (length doc), c.all_rows)
 
       at : (k : Nth) → length (counted k x) < 2 ^ 53
       at nth.Child = under _
@@ -123,16 +120,6 @@ module _ (doc : Document) (is : IsDocument doc) (d : Dialect) (el : Option (List
 
   -- ---- no other
 
-  none_kept : (p : ℕ → Bool) (xs : List ℕ) → eqb (length (filter p xs)) 0 ≡ not (list_any p xs)
-  none_kept p [] = refl
-  none_kept p (x ∷ xs) = elim (p x) as (λ b. eqb (length (cond b (x ∷ filter p xs) (filter p xs))) 0 ≡ not (b || list_any p xs)) [
-    | true ↦ false_from_ne_true _ (λ t. let z : suc (length (filter p xs)) ≡ 0 = eqb-true _ 0 t in omega arith)
-    | false ↦ none_kept p xs
-  ]
-
-  first_position : (n : ℕ) → is_nth (pos 0) (pos 1) (suc n) ≡ eqb n 0
-  first_position n = sym (conditions_nth (pos 0) (pos 1) n) ∙ lists.and_true (eqb n 0)
-
   apart_test : (z y : ℕ) → (ltb z y || ltb y z) ≡ not (eqb z y)
   apart_test z y = grind (arith, nat_tests)
 
@@ -143,8 +130,8 @@ module _ (doc : Document) (is : IsDocument doc) (d : Dialect) (el : Option (List
   only_test : (p : ℕ → Bool) (y : ℕ)
       → (eqb (length (filter (λ z. p z && ltb z y) (rows doc))) 0 && eqb (length (filter (λ z. p z && ltb y z) (rows doc))) 0) ≡ is_only doc p y
   only_test p y =
-      ap (λ b. b && eqb (length (filter (λ z. p z && ltb y z) (rows doc))) 0) (none_kept (λ z. p z && ltb z y) (rows doc))
-      ∙ ap (λ b. not (list_any (λ z. p z && ltb z y) (rows doc)) && b) (none_kept (λ z. p z && ltb y z) (rows doc))
+      ap (λ b. b && eqb (length (filter (λ z. p z && ltb y z) (rows doc))) 0) (sym (count_none (λ z. p z && ltb z y) (rows doc)))
+      ∙ ap (λ b. not (list_any (λ z. p z && ltb z y) (rows doc)) && b) (sym (count_none (λ z. p z && ltb y z) (rows doc)))
       ∙ nor _ _
       ∙ ap not (sym (lists.any_or (λ z. p z && ltb z y) (λ z. p z && ltb y z) (rows doc))
       ∙ lists.any_same _ _ (λ z. sym (lists.and_or_left (p z) (ltb z y) (ltb y z)) ∙ ap (λ b. p z && b) (apart_test z y)) (rows doc))

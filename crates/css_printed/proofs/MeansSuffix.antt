@@ -10,6 +10,7 @@ use Rattle.text_base.proofs.PartLemmas.{same_means}
 use Rattle.xpath_values.specs.declared.value.XNum.TheVariants.{Whole, NaN}
 use Rattle.xpath_values.specs.Numbers.{whole, num_sub}
 use Rattle.xpath_values.specs.Strings.{at_places, substring_from}
+use Rattle.css_meaning.proofs.ListTests.{or_false}
 
 drop_none : (n : ℕ) → drop {A = ℕ} n [] ≡ []
 drop_none zero = refl
@@ -50,10 +51,6 @@ ends_at a x v more (inr lt) =
     let y : length x - length v ≡ 0 = omega arith in
     ap (λ b. bytes_eq (a ∷ x) v || b) (more ∙ ap (λ n. bytes_eq (drop n x) v) y ∙ differ x v (λ h. omega arith))
     ∙ or_false (bytes_eq (a ∷ x) v) ∙ ap (λ n. bytes_eq (drop n (a ∷ x)) v) (sym z)
-  where
-    or_false : (b : Bool) → (b || false) ≡ b
-    or_false true = refl
-    or_false false = refl
 
 either_length : (a b : ℕ) → (b ≤ a) ⊎ (a < b)
 either_length a b = elim (cases_lt a b) [ inl l ↦ inr l | inr l ↦ inl l ]
