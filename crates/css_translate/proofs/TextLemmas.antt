@@ -1,7 +1,5 @@
 -- The characters of a text are scalar values, and so are those of all texts of a list.
-use Rattle.std.proofs.Common.{◌≡◌, refl, ◌∙◌, ℕ, Bool, List, [], ◌∷◌, true, sym, subst, Option}
-use Rattle.std.specs.Str.{chars, IsUtf8}
-use Rattle.std.proofs.lemmas.Str.{chars-encodes}
+use Rattle.std.proofs.Common.{◌≡◌, refl, ◌∙◌, ℕ, Bool, List, [], ◌∷◌, true, Option}
 use Rattle.std.proofs.lemmas.Bool.{and_from}
 use lib.Utf8.{scalars}
 use Rattle.std.specs.List.{AllByRecursion, list_all}
@@ -17,12 +15,6 @@ use Rattle.css_selectors.specs.declared.selector.Weight.{Weight}
 use Rattle.css_selectors.specs.Texts.{element_text, test_texts, compound_texts, part_texts, relative_texts, simple_texts, tail_text, selector_texts, AreTexts}
 use Rattle.css_selectors.proofs.TextsAt as at
 use Rattle.css_translate.specs.inner.Read.{IsReadSimple, IsReadCompound, IsReadPart, IsReadRelative, IsReadSelector}
-
-pub scalar_chars : (bs : List ℕ) → IsUtf8 bs → scalars (chars bs) ≡ true
-scalar_chars bs (cs, (s, e)) =
-    let P : List ℕ → Type 0 = λ b. scalars (chars b) ≡ true in
-    let Q : List ℕ → Type 0 = λ x. scalars x ≡ true in
-    subst P e (subst Q (sym (chars-encodes cs s)) s)
 
 each : {X : Type 0} (p : X → Bool) (xs : List X) → AllByRecursion (λ x. p x ≡ true) xs → list_all p xs ≡ true
 each p [] h = refl

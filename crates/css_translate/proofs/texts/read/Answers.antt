@@ -1,7 +1,7 @@
 use Rattle.std.proofs.Common.{◌≡◌, true, subst, List, ℕ}
 use lib.Utf8.{scalars}
-use Rattle.css_translate.proofs.TextLemmas.{scalar_chars}
+use Rattle.std.proofs.lemmas.Str.{scalars-chars}
 use Rattle.css_translate.proofs.texts.read.Goals as goal
 
 pub returns : goal.returns
-returns c = subst (λ (x : List ℕ). scalars x ≡ true) c.as_str-read.ensures.chars (scalar_chars _ c.as_str-read.utf8)
+returns c = subst (λ (x : List ℕ). scalars x ≡ true) c.as_str-read.ensures.chars (scalars-chars _ c.as_str-read.utf8)
