@@ -1,6 +1,6 @@
 -- What is read at a place, with so many choices in each other, is well made with so many where it is not refused.
 use Rattle.std.proofs.Common.{◌≡◌, ℕ, zero, suc, ◌+◌, ◌≤◌, Bool, true, false, ◌&&◌, cond, List, [], ◌∷◌, length, map, flat_map, refl, sym, ◌∙◌, ap, subst, arith}
-use Rattle.std.specs.Prelude.{◌||◌, Option, Some, None, All, sum_by}
+use Rattle.std.specs.Prelude.{◌||◌, Option, Some, None, All, sum_by, is_none}
 use Rattle.std.proofs.lemmas.List.Elements.{All-nil, All-cons}
 use Rattle.std.proofs.lemmas.List.Sums.{sum_by-cons, sum_by-append}
 use Rattle.css_lexer.specs.declared.tokens.CssToken.{CssToken}
@@ -19,7 +19,7 @@ use Rattle.css_parser.specs.declared.pieces.ListRead.{ListRead}
 use Rattle.css_parser.specs.Simples.{piece_at}
 use Rattle.css_parser.specs.Choices.{is_has, word_at, choice_read, deep_read, deep, simple_by, members}
 use Rattle.css_parser.specs.inner.Reading.{EndsList}
-use Rattle.css_parser.specs.Refusals.{is_none, members_refusal}
+use Rattle.css_parser.specs.Refusals.{members_refusal}
 use Rattle.css_parser.specs.Values.{simple_of, only_of, any, has, negation, choice_value, member_value, compound_of, part_of, relative_of, compounds_in}
 use Rattle.css_parser.proofs.RefusalLemmas.{choice_refusal}
 use Rattle.css_parser.proofs.Fitting.{piece_good}

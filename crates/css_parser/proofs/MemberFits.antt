@@ -1,7 +1,7 @@
 -- What stands in a choice, read with so many choices in each other, is well made with so many where it is not refused, and has no
 -- more parts and simple selectors than tokens.
 use Rattle.std.proofs.Common.{◌≡◌, ℕ, zero, suc, ◌+◌, ◌<◌, ◌≤◌, Bool, true, false, cond, List, [], ◌∷◌, ◌++◌, length, map, flat_map, refl, sym, ◌∙◌, ap, subst, arith}
-use Rattle.std.specs.Prelude.{◌≢◌, Option, Some, None, All, sum_by}
+use Rattle.std.specs.Prelude.{◌≢◌, Option, Some, None, All, sum_by, is_none}
 use Rattle.std.proofs.lemmas.List.Elements.{All-nil, All-cons, All-append}
 use Rattle.std.proofs.lemmas.List.Sums.{sum_by-cons}
 use Rattle.css_lexer.specs.declared.tokens.CssKind.TheVariants as kind
@@ -35,7 +35,7 @@ use Rattle.css_parser.specs.Simples.{element}
 use Rattle.css_parser.specs.Links.{combinator, sign}
 use Rattle.css_parser.specs.Choices.{is_has, Reader, forms_from, inner_read, some_read, inner_with, parts_by, alone, joined, member_of, front, inner_at, further_with, further_at, parts_from, member_at, list_by, list_from}
 use Rattle.css_parser.specs.inner.Reading.{EndsElement, EndsInner, EndsInners, EndsLink}
-use Rattle.css_parser.specs.Refusals.{is_none, inner_refusal, inners_refusal, member_refusal, members_refusal}
+use Rattle.css_parser.specs.Refusals.{inner_refusal, inners_refusal, member_refusal, members_refusal}
 use Rattle.css_parser.specs.Values.{alone_of, only_of, inner_value, member_value, compound_of, part_of, relative_of, compounds_in}
 use Rattle.css_parser.proofs.PlaceLemmas.{skip_order, skip_within, stands_within}
 use Rattle.css_parser.proofs.Endings.{element_ends, combinator_ends}

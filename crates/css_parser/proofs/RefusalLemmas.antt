@@ -1,6 +1,6 @@
 -- The first refusal, from left to right.
 use Rattle.std.proofs.Common.{true, map, ◌≡◌, ℕ, suc, ◌+◌, ◌-◌, ◌<◌, ◌≤◌, Bool, false, ◌&&◌, List, [], ◌∷◌, length, drop, get_or, refl, sym, ◌∙◌, ap, arith, length-drop}
-use Rattle.std.specs.Prelude.{◌==◌, ◌||◌, Option, Some, None}
+use Rattle.std.specs.Prelude.{◌==◌, ◌||◌, Option, Some, None, is_none}
 use Rattle.std.proofs.Math.Seq.{drop-cons}
 use Rattle.std.proofs.lemmas.List.{drop_all}
 use Rattle.std.proofs.lemmas.Bool.Decides.{nat_tests}
@@ -17,7 +17,7 @@ use Rattle.css_parser.specs.declared.pieces.Form.TheVariants as form
 use Rattle.text_base.specs.declared.reasons.SelectorFault.TheVariants as fault
 use Rattle.css_parser.specs.Choices.{is_has}
 use Rattle.text_base.specs.Strings.{is_empty}
-use Rattle.css_parser.specs.Refusals.{form_layer, inner_layer, ByPlace, by_forms, by_inners, ByName, member_layer, member_refusal, members_refusal, is_none, if_refused, piece_refusal, inner_refusal, inners_refusal, or_else, form_refusal, forms_refusal, compound_refusal, selector_refusal, refusal}
+use Rattle.css_parser.specs.Refusals.{form_layer, inner_layer, ByPlace, by_forms, by_inners, ByName, member_layer, member_refusal, members_refusal, if_refused, piece_refusal, inner_refusal, inners_refusal, or_else, form_refusal, forms_refusal, compound_refusal, selector_refusal, refusal}
 
 module _ {A : Type 0} (xs : List A) (i : ℕ) (x : A) (l : i < length xs) (e : x ≡ get_or xs i x) where
   pub cut : drop i xs ≡ x ∷ drop (i + 1) xs

@@ -1,6 +1,6 @@
 -- Which texts are lists, and why a text is none.
 use Rattle.std.proofs.Common.{map, ◌≡◌, ℕ, ◌<◌, ◌≤◌, List, [], ◌∷◌, length, refl, sym, ◌∙◌, ap, subst, arith, Bool, true, false, ◌&&◌, not}
-use Rattle.std.specs.Prelude.{◌||◌, Option, Some, None, Err}
+use Rattle.std.specs.Prelude.{◌||◌, Option, Some, None, Err, is_none}
 use Rattle.css_lexer.specs.declared.tokens.CssToken.{CssToken}
 use Rattle.css_lexer.specs.Tokens.{Lexes, Stops, IsLexed, most_selector}
 use Rattle.css_lexer.proofs.EscapeLemmas.{cases_if}
@@ -22,7 +22,7 @@ use Rattle.css_parser.specs.declared.pieces.Compound.{Compound}
 use Rattle.css_parser.specs.Choices.{is_has}
 use Rattle.css_parser.specs.Grammar.{Reads}
 use Rattle.text_base.specs.Strings.{is_empty}
-use Rattle.css_parser.specs.Refusals.{or_else, if_refused, is_none, is_of_type, needs_element, piece_refusal, form_refusal, inner_refusal, inners_refusal, member_refusal, members_refusal, forms_refusal, compound_refusal, selector_refusal, refusal}
+use Rattle.css_parser.specs.Refusals.{or_else, if_refused, is_of_type, needs_element, piece_refusal, form_refusal, inner_refusal, inners_refusal, member_refusal, members_refusal, forms_refusal, compound_refusal, selector_refusal, refusal}
 use Rattle.css_parser.specs.Lists.{list_of}
 use Rattle.css_parser.specs.Selecting.{Accepts, IsUnread, IsRefused, IsFault, IsUnlisted}
 use Rattle.css_parser.specs.inner.Reading.{IsListRead}

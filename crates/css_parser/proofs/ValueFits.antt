@@ -1,7 +1,7 @@
 -- Forms and inners that are read with so many choices in each other and are not refused are well made with so many, and have no
 -- more simple selectors than tokens.
 use Rattle.std.proofs.Common.{◌≡◌, ℕ, zero, suc, ◌+◌, ◌<◌, ◌≤◌, Bool, true, false, ◌&&◌, List, [], ◌∷◌, length, map, flat_map, refl, sym, ◌∙◌, ap, subst, arith}
-use Rattle.std.specs.Prelude.{Option, Some, None, All, sum_by}
+use Rattle.std.specs.Prelude.{Option, Some, None, All, sum_by, is_none}
 use Rattle.std.proofs.lemmas.List.Elements.{All-nil, All-cons, All-append}
 use Rattle.std.proofs.lemmas.List.Sums.{sum_by-cons, sum_by-append}
 use Rattle.css_lexer.specs.declared.tokens.CssToken.{CssToken}
@@ -40,7 +40,7 @@ use Rattle.css_parser.specs.declared.pieces.Member.{Member, out-Member}
 use Rattle.css_parser.specs.Choices.{one_read, Reader, Forms, forms_by, forms_from}
 use Rattle.css_parser.specs.inner.Reading.{IsBehind, EndsForm}
 use Rattle.text_base.specs.Strings.{is_empty}
-use Rattle.css_parser.specs.Refusals.{or_else, if_refused, is_none, is_of_type, needs_element, is_only_of_type, piece_refusal, form_refusal, inner_refusal, forms_refusal}
+use Rattle.css_parser.specs.Refusals.{or_else, if_refused, is_of_type, needs_element, is_only_of_type, piece_refusal, form_refusal, inner_refusal, forms_refusal}
 use Rattle.css_parser.specs.Values.{FormValue, test_of, simple_of, piece_value, alone_in, alone_of, form_value, inner_value, member_value, only_of, form_simples, compound_of, part_of}
 use Rattle.css_parser.proofs.RefusalLemmas.{one_refusal, deep_refusal, inner_is}
 use Rattle.css_parser.proofs.Fitting.{FitsPlain, FitsPiece, Good}

@@ -1,6 +1,6 @@
 -- Every accepted list is well made.
 use Rattle.std.proofs.Common.{◌≡◌, ℕ, ◌+◌, ◌*◌, ◌<◌, ◌≤◌, Bool, false, List, [], ◌∷◌, length, map, flat_map, refl, sym, ◌∙◌, ap, subst, arith}
-use Rattle.std.specs.Prelude.{◌≢◌, Option, Some, None, All, sum_by}
+use Rattle.std.specs.Prelude.{◌≢◌, Option, Some, None, All, sum_by, is_none}
 use Rattle.std.proofs.lemmas.List.Elements.{All-nil, All-cons}
 use Rattle.std.proofs.lemmas.List.Sums.{sum_by-cons}
 use Rattle.css_lexer.proofs.TokenPlaces.{few_tokens}
@@ -28,7 +28,7 @@ use Rattle.css_parser.specs.Simples.{element}
 use Rattle.css_parser.specs.Choices.{simple}
 use Rattle.css_parser.specs.Grammar.{Simples, HasElement, past_element, IsCompound, Further, IsSelector, Others, Reads}
 use Rattle.text_base.specs.Strings.{is_empty}
-use Rattle.css_parser.specs.Refusals.{if_refused, is_none, forms_refusal, compound_refusal, selector_refusal, refusal}
+use Rattle.css_parser.specs.Refusals.{if_refused, forms_refusal, compound_refusal, selector_refusal, refusal}
 use Rattle.css_parser.specs.Values.{form_simples}
 use Rattle.css_parser.specs.Lists.{part_of, selector_of, list_of}
 use Rattle.css_parser.specs.inner.Reading.{EndsForm}

@@ -1,5 +1,5 @@
 -- What is refused of a list that the grammar reads: the first from left to right.
-use Rattle.std.specs.Prelude.{ℕ, ◌&&◌, ◌||◌, not, Bool, true, false, if◌then◌else◌, List, [], ◌∷◌, Option, Some, None}
+use Rattle.std.specs.Prelude.{◌&&◌, ◌||◌, not, Bool, true, false, if◌then◌else◌, List, [], ◌∷◌, Option, Some, None, is_none}
 use Rattle.text_base.specs.Strings.{is_empty}
 use Rattle.text_base.specs.declared.reasons.SelectorFault.{SelectorFault}
 use Rattle.text_base.specs.declared.reasons.SelectorFault.TheVariants as fault
@@ -18,10 +18,6 @@ use Rattle.css_parser.specs.declared.pieces.Inner.{Inner}
 use Rattle.css_parser.specs.declared.pieces.Member.{Member}
 use Rattle.css_parser.specs.declared.pieces.Compound.{Compound}
 use Rattle.css_parser.specs.Choices.{is_has}
-
-abbrev pub is_none : Option (List ℕ) → Bool
-is_none None = true
-is_none (Some n) = false
 
 -- positions that are counted among the elements of one name
 abbrev pub is_of_type : Nth → Bool

@@ -1,5 +1,5 @@
 //! What is refused of a list that the grammar reads: the first from left to right.
-ghost use Rattle.std.specs.Prelude.{◌≡◌, ◌&&◌};
+ghost use Rattle.std.specs.Prelude.{◌≡◌, ◌&&◌, is_none};
 ghost use Rattle.css_parser.specs.Refusals as spec;
 
 use crate::choices::is_has;
@@ -70,7 +70,7 @@ fn piece_refusal(nameless: bool, last: bool, piece: &Piece) -> Option<SelectorFa
 }
 
 fn is_none(name: &Option<Txt>) -> bool
-    ensures { result ≡ spec.is_none name.now }
+    ensures { result ≡ is_none name.now }
 {
     match name {
         None => true,
