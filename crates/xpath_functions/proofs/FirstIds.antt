@@ -13,8 +13,9 @@ use Rattle.doc_model.proofs.Filters.{upto, upto_more}
 use Rattle.doc_model.proofs.Runs.{filter_run, run_le, range_split}
 use Rattle.xpath_parser.specs.Conversions.{is_any}
 use Rattle.xpath_parser.specs.Functions.{attributes_named, has_id, is_id, is_first}
-use Rattle.xpath_functions.proofs.Truths.{same_truth, same_any}
-use Rattle.xpath_functions.specs.Attributes.{is_value}
+use Rattle.std.specs.Cmp.{both_ways}
+use Rattle.xpath_functions.proofs.Truths.{same_any}
+use Rattle.xpath_functions.specs.inner.Attributes.{is_value}
 
 -- ---- the first of those that pass
 
@@ -104,7 +105,7 @@ or_and true false false = refl
 or_and false b c = refl
 
 flip : (s w : List ℕ) → bytes_eq s w ≡ bytes_eq w s
-flip s w = same_truth _ _
+flip s w = both_ways _ _
     (λ h. (bytes_eq-Decides w s).1 (sym ((bytes_eq-Decides s w).0 h)))
     (λ h. (bytes_eq-Decides s w).1 (sym ((bytes_eq-Decides w s).0 h)))
 

@@ -1,6 +1,5 @@
 mod FirstIds
 mod Lists
-mod Named
 mod Nearest
 mod Orders
 mod Pairs
@@ -8,6 +7,7 @@ mod Places
 mod Positions
 mod Pushes
 mod Spaces
+mod Tests
 mod TextSets
 mod Translations
 mod Truths

@@ -1,10 +1,6 @@
 -- Lists with nothing in them, and constant texts.
-use Rattle.std.proofs.Common.{◌≡◌, refl, ◌∙◌, ap, ℕ, ◌<◌, ◌^◌, ℤ, IfOk, Result, Ok, Err, String, string_bytes, Global, List, [], false, filter, ◌∷◌, length, codes, arith}
+use Rattle.std.proofs.Common.{◌≡◌, refl, ◌∙◌, ap, ℕ, IfOk, Result, Ok, Err, String, string_bytes, Global, List, [], false, filter, ◌∷◌, length, codes, arith}
 use Rattle.std.specs.Str.{chars}
-use Rattle.std.specs.Fmt.{signed_decimal}
-use Rattle.std.proofs.lemmas.Fmt.{IsAscii-signed}
-use Rattle.std.proofs.lemmas.Str.{chars-IsAscii}
-use lib.Signed.{mag}
 
 pub no_items : {A : Type 0} (xs : List A) → length xs ≡ 0 → xs ≡ []
 no_items [] h = refl
@@ -30,10 +26,6 @@ dash_chars = refl
 pub ascii_text : {E : Type 0} (bs : List ℕ) (r : Result (String Global) E) → chars bs ≡ bs → IfOk r (λ s. string_bytes s ≡ bs) → IfOk r (λ s. chars (string_bytes s) ≡ bs)
 ascii_text bs (Ok s) h e = ap chars e ∙ h
 ascii_text bs (Err x) h e = tt
-
--- the digits of a number are
-pub whole_chars : (z : ℤ) → mag z < 2 ^ 63 → chars (signed_decimal z) ≡ signed_decimal z
-whole_chars z h = chars-IsAscii (signed_decimal z) (IsAscii-signed z h)
 
 pub lang_chars : chars (codes "xml:lang") ≡ codes "xml:lang"
 unfolding chars

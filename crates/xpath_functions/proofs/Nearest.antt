@@ -10,7 +10,7 @@ use Rattle.doc_model.proofs.Filters.{upto_more, upto_none, upto_all}
 use Rattle.doc_model.proofs.WalkSteps.{IsOver, none_above, over_within}
 use Rattle.xpath_parser.specs.Conversions.{is_any}
 use Rattle.xpath_parser.specs.Functions.{attributes_named, language_at, language_of, lang}
-use Rattle.xpath_functions.specs.Languages.{says}
+use Rattle.xpath_functions.specs.inner.Languages.{says}
 
 abbrev pub here : Document → ℕ → ℕ → Bool
 here doc c k = ((eqb k c) || below doc k c) && is_any (attributes_named doc (codes "xml:lang") k)

@@ -13,7 +13,7 @@ use Rattle.xpath_values.specs.Compares.{num_fits}
 use Rattle.xpath_values.specs.declared.value.Value.TheVariants.{Nodes}
 use Rattle.xpath_parser.specs.Conversions.{fits}
 use Rattle.xpath_functions.proofs.Truths.{same_any}
-use Rattle.xpath_functions.specs.Extremes.{extreme, extreme_of, is_order, goes_up}
+use Rattle.xpath_functions.specs.inner.Extremes.{extreme, extreme_of, is_order, goes_up}
 
 absorb_left : (p q : Bool) → (q ≡ true → p ≡ true) → p ≡ (p || q)
 absorb_left true q h = refl

@@ -1,14 +1,12 @@
 -- The places of one text in another, by bytes and by characters.
-use Rattle.std.proofs.Common.{◌≡◌, ◌≢◌, refl, sym, ◌∙◌, ap, subst, ℕ, suc, ◌+◌, ◌<◌, ◌≤◌, Bool, true, false, cond, eqb, List, [], ◌∷◌, ◌++◌, length, take, drop, Some, None, encode_utf8, encode_utf8_all, arith, append_assoc}
+use Rattle.std.proofs.Common.{◌≡◌, ◌≢◌, refl, sym, ◌∙◌, ap, subst, ℕ, suc, ◌+◌, ◌<◌, ◌≤◌, Bool, true, false, cond, List, [], ◌∷◌, ◌++◌, length, take, drop, Some, None, encode_utf8, encode_utf8_all, arith, append_assoc}
 use Rattle.std.specs.Str.{chars, IsUtf8, IsCharBoundary}
-use Rattle.std.specs.List.{starts_with}
 use Rattle.std.specs.Str.Pattern.{FindsText, LacksTextAt}
 use Rattle.std.proofs.Math.Seq.{drop-append_seam, drop-append-add, take-length}
 use Rattle.std.proofs.lemmas.Bool.{eqb-true, eq-eqb}
 use Rattle.std.proofs.lemmas.List.{length-append, length-drop, take-append-drop, take-append-le}
 use Rattle.std.proofs.lemmas.Slice.Eq.{starts_is}
 use Rattle.std.proofs.lemmas.Str.{chars-append, encodes-append, encodes-chars, cons_from_encodes, length-le-encodes, IsUtf8-append, IsUtf8-drop, IsUtf8-take, IsCharBoundary-at_seam}
-use Rattle.xpath_functions.proofs.Truths.{same_truth}
 use Rattle.xpath_values.specs.Strings.{begins, one_more, place_of, before_place, after_place, str_before, str_after}
 
 -- ---- beginning with a text
@@ -23,24 +21,6 @@ split_chars (c ∷ v) x rest e =
     let first = cons_from_encodes x (encode_utf8_all v ++ rest) c (e ∙ append_assoc (encode_utf8 c) (encode_utf8_all v) rest) in
     let more = split_chars v first.0 rest first.2 in
     (more.0, (first.1 ∙ ap (λ r. c ∷ r) more.1.0, more.1.1))
-
-encodes_begins : (x v : List ℕ) → begins (encode_utf8_all x) (encode_utf8_all v) ≡ begins x v
-encodes_begins x v = same_truth _ _ by_bytes by_chars
-  where
-    by_bytes : begins (encode_utf8_all x) (encode_utf8_all v) ≡ true → begins x v ≡ true
-    by_bytes h =
-        let found = split_chars v x _ ((begins_parts (encode_utf8_all x) (encode_utf8_all v)).0 h) in
-        (begins_parts x v).1 found.0 found.1.0
-
-    by_chars : begins x v ≡ true → begins (encode_utf8_all x) (encode_utf8_all v) ≡ true
-    by_chars h =
-        (begins_parts (encode_utf8_all x) (encode_utf8_all v)).1 (encode_utf8_all (drop (length v) x))
-        (ap encode_utf8_all ((begins_parts x v).0 h) ∙ encodes-append v (drop (length v) x))
-
--- a text begins with another by its bytes where it does by its characters
-pub begins_chars : (s t : List ℕ) → IsUtf8 s → IsUtf8 t → starts_with eqb s t ≡ begins (chars s) (chars t)
-begins_chars s t u w =
-    ap (λ v. begins v t) (sym (encodes-chars s u)) ∙ ap (λ v. begins (encode_utf8_all (chars s)) v) (sym (encodes-chars t w)) ∙ encodes_begins (chars s) (chars t)
 
 -- ---- the first place
 

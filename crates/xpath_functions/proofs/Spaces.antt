@@ -3,7 +3,7 @@ use Rattle.std.proofs.Common.{◌≡◌, refl, sym, ◌∙◌, ap, ℕ, Bool, tr
 use Rattle.std.specs.List.{join_with_byte}
 use Rattle.xpath_values.specs.Numbers.{is_space4}
 use Rattle.xpath_values.specs.Strings.{is_empty, words_after, words, normalized}
-use Rattle.xpath_functions.specs.Spacing.{Spaced, start, parted, after}
+use Rattle.xpath_functions.specs.inner.Spacing.{Spaced, start, parted, after}
 
 -- a word behind a text
 abbrev glued : List ℕ → List ℕ → List ℕ

@@ -8,13 +8,13 @@ use Rattle.std.specs.Str.{chars, bytes_eq, IsUtf8}
 use Rattle.std.proofs.lemmas.Map.Text.{is_eq-slice_cmp}
 use Rattle.std.proofs.lemmas.Slice.Eq.{bytes_eq-Decides}
 use Rattle.std.proofs.lemmas.Str.{encodes-chars, encodes_same}
-use Rattle.xpath_functions.proofs.Truths.{same_truth}
-use Rattle.xpath_functions.specs.Sets.{has_text}
+use Rattle.std.specs.Cmp.{both_ways}
+use Rattle.xpath_functions.specs.inner.Sets.{has_text}
 use denote.Ref.{Bor}
 
 -- a text's bytes and the bytes of characters
 pub bytes_chars : (t q : List ℕ) → IsUtf8 t → bytes_eq t (encode_utf8_all q) ≡ bytes_eq (chars t) q
-bytes_chars t q u = same_truth _ _
+bytes_chars t q u = both_ways _ _
     (λ h. (bytes_eq-Decides (chars t) q).1 (encodes_same (chars t) q (encodes-chars t u ∙ (bytes_eq-Decides t (encode_utf8_all q)).0 h)))
     (λ h. (bytes_eq-Decides t (encode_utf8_all q)).1 (sym (encodes-chars t u) ∙ ap encode_utf8_all ((bytes_eq-Decides (chars t) q).0 h)))
 

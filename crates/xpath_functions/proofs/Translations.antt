@@ -8,7 +8,7 @@ use Rattle.std.specs.Ordering.{is_eq, nat_cmp}
 use Rattle.std.specs.declared.cmp.Ordering.TheVariants.{Less, Equal, Greater}
 use Rattle.std.proofs.lemmas.Bool.{eqb-true, ltb-true, ne_eqb}
 use Rattle.std.proofs.lemmas.Str.{chars-nil, chars_past_char, IsUtf8-past_char}
-use Rattle.xpath_functions.specs.Translations.{place_in, image_at, image_in}
+use Rattle.xpath_functions.specs.inner.Translations.{place_in, image_at, image_in}
 use Rattle.xpath_functions.proofs.Lists.{no_items}
 
 -- the first place or, where there is none, another

@@ -5,8 +5,8 @@ ghost use Rattle.std.specs.Option.{option_to_list};
 ghost use Rattle.std.specs.Ordering.{nat_cmp};
 ghost use Rattle.std.specs.Str.{chars};
 ghost use Rattle.xpath_functions.specs.Rows.{AreWithin};
-ghost use Rattle.xpath_functions.specs.Spacing as spacing;
-ghost use Rattle.xpath_functions.specs.Translations.{image_in, turned};
+ghost use Rattle.xpath_functions.specs.inner.Spacing as spacing;
+ghost use Rattle.xpath_functions.specs.inner.Translations.{image_in, turned};
 ghost use Rattle.xpath_parser.specs.Functions.{concat_of};
 ghost use Rattle.xpath_values.specs.Strings as strings;
 

@@ -3,11 +3,12 @@ ghost use Rattle.std.specs.Prelude.{◌≡◌, ◌<◌, ℕ, List, true, false, 
 ghost use Rattle.std.specs.List.{list_any};
 ghost use Rattle.std.specs.Str.{bytes_eq};
 ghost use Rattle.doc_model.specs.StringValue as values;
-ghost use Rattle.xpath_functions.specs.Extremes as extremes;
-ghost use Rattle.xpath_functions.specs.Plain.{as_plain};
-ghost use Rattle.xpath_functions.specs.Rows.{AreRows, IsWithin};
-ghost use Rattle.xpath_functions.specs.Sets.{has_text};
-ghost use Rattle.xpath_functions.specs.Texts.{chars_of};
+ghost use Rattle.doc_model.specs.RowLists.{AllBelow};
+ghost use Rattle.xpath_functions.specs.inner.Extremes as extremes;
+ghost use Rattle.xpath_functions.specs.inner.Plain.{as_plain};
+ghost use Rattle.xpath_functions.specs.Rows.{IsWithin};
+ghost use Rattle.xpath_functions.specs.inner.Sets.{has_text};
+ghost use Rattle.xpath_functions.specs.inner.Texts.{chars_of};
 ghost use Rattle.xpath_parser.specs.Conversions as spec;
 ghost use Rattle.xpath_values.specs.Atoms as atoms;
 ghost use Rattle.xpath_values.specs.Compares as compares;
@@ -42,7 +43,7 @@ fn row_fits<T: Tree>(
     rows: &[u32],
     b: Atom<'_>,
 ) -> Result<bool, NoMemory>
-    requires { AreRows (T.document tree.now) rows.now }
+    requires { AllBelow (length (T.document tree.now)) rows.now }
     ensures { IfOk result (λ r. r ≡ spec.row_fits (T.document tree.now) op rows.now (atoms.plain_of b.entry)) }
 {
     for x in rows {
@@ -62,7 +63,7 @@ fn fits_row<T: Tree>(
     a: Atom<'_>,
     rows: &[u32],
 ) -> Result<bool, NoMemory>
-    requires { AreRows (T.document tree.now) rows.now }
+    requires { AllBelow (length (T.document tree.now)) rows.now }
     ensures { IfOk result (λ r. r ≡ spec.fits_row (T.document tree.now) op (atoms.plain_of a.entry) rows.now) }
 {
     for y in rows {
@@ -80,7 +81,7 @@ fn texts_of<'a, T: Tree>(
     tree: &'a T,
     rows: &[u32],
 ) -> Result<Vec<Text<'a>>, NoMemory>
-    requires { AreRows (T.document tree.now) rows.now }
+    requires { AllBelow (length (T.document tree.now)) rows.now }
     ensures { IfOk result (λ v. map chars_of v.items ≡ map (values.string_value (T.document tree.now)) rows.now) }
 {
     let mut texts = Vec::new(alloc);
@@ -103,8 +104,8 @@ fn set_of<'a>(alloc: Global, texts: &'a [Text<'a>]) -> Result<BTreeSet<&'a str>,
 
 /// Whether a row of each side has one string value. Each string value is looked up once.
 fn share<T: Tree>(alloc: Global, tree: &T, xs: &[u32], ys: &[u32]) -> Result<bool, NoMemory>
-    requires left { AreRows (T.document tree.now) xs.now }
-    requires right { AreRows (T.document tree.now) ys.now }
+    requires left { AllBelow (length (T.document tree.now)) xs.now }
+    requires right { AllBelow (length (T.document tree.now)) ys.now }
     ensures { IfOk result (λ r. r ≡ spec.fits (T.document tree.now) op.Equal (Nodes xs.now) (Nodes ys.now)) }
 {
     let texts = texts_of(alloc, tree, xs)?;
@@ -120,8 +121,8 @@ fn share<T: Tree>(alloc: Global, tree: &T, xs: &[u32], ys: &[u32]) -> Result<boo
 
 /// Whether a row of each side have two string values: whether one of all rows has another than the first row.
 fn differ<T: Tree>(alloc: Global, tree: &T, xs: &[u32], ys: &[u32]) -> Result<bool, NoMemory>
-    requires left { AreRows (T.document tree.now) xs.now }
-    requires right { AreRows (T.document tree.now) ys.now }
+    requires left { AllBelow (length (T.document tree.now)) xs.now }
+    requires right { AllBelow (length (T.document tree.now)) ys.now }
     ensures { IfOk result (λ r. r ≡ spec.fits (T.document tree.now) op.Unequal (Nodes xs.now) (Nodes ys.now)) }
 {
     if xs.len() == 0 {
@@ -154,7 +155,7 @@ fn extreme(least: bool, a: XNum, b: XNum) -> XNum
 
 /// The least or the greatest of the numbers of the rows; NaN where no row has a number.
 fn extreme_of<T: Tree>(alloc: Global, tree: &T, least: bool, rows: &[u32]) -> Result<XNum, NoMemory>
-    requires { AreRows (T.document tree.now) rows.now }
+    requires { AllBelow (length (T.document tree.now)) rows.now }
     ensures { IfOk result (λ n. n ≡ extremes.extreme_of (T.document tree.now) least rows.now) }
 {
     let mut found = XNum::NaN;
@@ -182,8 +183,8 @@ fn in_order<T: Tree>(
     ys: &[u32],
 ) -> Result<bool, NoMemory>
     requires order { extremes.is_order op ≡ true }
-    requires left { AreRows (T.document tree.now) xs.now }
-    requires right { AreRows (T.document tree.now) ys.now }
+    requires left { AllBelow (length (T.document tree.now)) xs.now }
+    requires right { AllBelow (length (T.document tree.now)) ys.now }
     ensures { IfOk result (λ r. r ≡ spec.fits (T.document tree.now) op (Nodes xs.now) (Nodes ys.now)) }
 {
     let up = goes_up(op);
@@ -200,8 +201,8 @@ fn rows_fit<T: Tree>(
     xs: &[u32],
     ys: &[u32],
 ) -> Result<bool, NoMemory>
-    requires left { AreRows (T.document tree.now) xs.now }
-    requires right { AreRows (T.document tree.now) ys.now }
+    requires left { AllBelow (length (T.document tree.now)) xs.now }
+    requires right { AllBelow (length (T.document tree.now)) ys.now }
     ensures { IfOk result (λ r. r ≡ spec.fits (T.document tree.now) op (Nodes xs.now) (Nodes ys.now)) }
 {
     match op {

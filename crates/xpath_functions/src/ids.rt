@@ -4,16 +4,16 @@ ghost use Rattle.std.specs.List.{list_any};
 ghost use Rattle.std.specs.Str.{bytes_eq, chars};
 ghost use Rattle.doc_model.specs.Document.{rows};
 ghost use Rattle.doc_model.specs.StringValue as values;
-ghost use Rattle.xpath_functions.specs.Attributes as spec;
-ghost use Rattle.xpath_functions.specs.Rows.{AreRows, IsWithin};
-ghost use Rattle.xpath_functions.specs.Sets.{has_text, AreLeft};
+ghost use Rattle.doc_model.specs.RowLists.{AllBelow};
+ghost use Rattle.xpath_functions.specs.inner.Attributes as spec;
+ghost use Rattle.xpath_functions.specs.Rows.{IsWithin};
+ghost use Rattle.xpath_functions.specs.inner.Sets.{has_text, AreLeft};
 ghost use Rattle.xpath_parser.specs.Functions as functions;
 ghost use Rattle.xpath_values.specs.Strings as strings;
 
-use crate::attributes::attribute_named;
 use crate::sets::{add, take_out};
 use crate::texts::{row_text, value_text};
-use doc_model::{Kind, Tree};
+use doc_model::{Kind, Tree, attribute_named};
 use std::alloc::Global;
 use std::collections::BTreeSet;
 use text_base::{NoMemory, Seq, Txt};
@@ -28,7 +28,7 @@ fn words_of(alloc: Global, text: &str) -> Result<Seq<Txt>, NoMemory>
 
 /// The words of the string values of all rows.
 fn words_of_rows<T: Tree>(alloc: Global, tree: &T, rows: &[u32]) -> Result<Seq<Txt>, NoMemory>
-    requires { AreRows (T.document tree.now) rows.now }
+    requires { AllBelow (length (T.document tree.now)) rows.now }
     ensures { IfOk result (λ v. v ≡ flat_map (λ x. strings.words (values.string_value (T.document tree.now) x)) rows.now) }
 {
     let mut words = Seq::new(alloc);
@@ -72,7 +72,7 @@ fn id_of<T: Tree>(tree: &T, y: u32) -> Option<u32>
     ensures row { IfSome result (λ z. z < length (T.document tree.now)) }
 {
     match tree.kind(y) {
-        Kind::Element => attribute_named(tree, y, "id"),
+        Kind::Element => attribute_named(tree, y, &"id"),
         Kind::Root | Kind::Attribute | Kind::Text | Kind::Comment => None,
     }
 }

@@ -2,14 +2,12 @@
 ghost use Rattle.std.specs.Prelude.{◌≡◌, ◌<◌, ℕ, List, length, IfOk, IfSome};
 ghost use Rattle.std.specs.Str.{chars};
 ghost use Rattle.doc_model.specs.Document.{Document};
-ghost use Rattle.xpath_functions.specs.Languages as spec;
+ghost use Rattle.xpath_functions.specs.inner.Languages as spec;
 ghost use Rattle.xpath_parser.specs.Functions as functions;
 
-use crate::attributes::attribute_named;
-use crate::parts::begins;
-use doc_model::Tree;
+use doc_model::{Tree, attribute_named};
 use std::alloc::Global;
-use text_base::{NoMemory, lower_ascii};
+use text_base::{NoMemory, begins, lower_ascii};
 use xpath_values::{Atom, Compare, compare_atoms};
 
 /// Whether a language is the wanted one, or one of its parts: the wanted one, `-` and more. Letter case is ignored.
@@ -37,12 +35,12 @@ fn nearest_language<T: Tree>(tree: &T, node: u32) -> Option<u32>
 {
     let mut y = node;
     while y > 0 {
-        match attribute_named(tree, y, "xml:lang") {
+        match attribute_named(tree, y, &"xml:lang") {
             Some(z) => return Some(z),
             None => y = tree.parent(y),
         }
     }
-    attribute_named(tree, y, "xml:lang")
+    attribute_named(tree, y, &"xml:lang")
 }
 
 /// Whether the language of a row is the wanted one, or one of its parts.

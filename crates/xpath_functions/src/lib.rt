@@ -1,7 +1,6 @@
 //! The functions of XPath 1.0, section 4, with the conversions and comparisons of its values, in a document.
 #![tactic(auto)]
 
-mod attributes;
 mod booleans;
 mod building;
 mod calls;

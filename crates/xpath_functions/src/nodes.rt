@@ -1,11 +1,12 @@
 //! The functions on node-sets, XPath 1.0, section 4.1.
 ghost use Rattle.std.specs.Prelude.{◌≡◌, ◌<◌, ◌∷◌, [], length, pos, IfOk};
+ghost use Rattle.doc_model.specs.RowLists.{AllBelow};
 ghost use Rattle.xpath_values.specs.declared.value.Value.TheVariants.{Nodes};
 ghost use Rattle.xpath_values.specs.Numbers as numbers;
 ghost use Rattle.xpath_parser.specs.Conversions.{rows_of};
 ghost use Rattle.xpath_parser.specs.Functions as functions;
 ghost use Rattle.xpath_parser.specs.Functions.{arg, first_name};
-ghost use Rattle.xpath_functions.specs.Rows.{AreRows, AreWithin, IsWithin};
+ghost use Rattle.xpath_functions.specs.Rows.{AreWithin, IsWithin};
 
 use crate::ids::{rows_with_ids, words_of_value};
 use crate::numbers::counted;
@@ -72,7 +73,7 @@ pub fn id<T: Tree>(alloc: Global, tree: &T, args: &Seq<Value>) -> Result<Seq<u32
 
 /// A copy of the name of the first row, or the empty text.
 fn first_name<T: Tree>(alloc: Global, tree: &T, rows: &[u32]) -> Result<Txt, NoMemory>
-    requires { AreRows (T.document tree.now) rows.now }
+    requires { AllBelow (length (T.document tree.now)) rows.now }
     ensures { IfOk result (λ t. t ≡ first_name (T.document tree.now) rows.now) }
 {
     if rows.len() == 0 {

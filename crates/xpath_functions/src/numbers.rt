@@ -1,10 +1,11 @@
 //! The functions on numbers, XPath 1.0, section 4.4.
 ghost use Rattle.std.specs.Prelude.{◌≡◌, ◌<◌, ◌∷◌, [], length, pos, IfOk};
+ghost use Rattle.doc_model.specs.RowLists.{AllBelow};
 ghost use Rattle.xpath_values.specs.declared.value.Value.TheVariants.{Nodes};
 ghost use Rattle.xpath_values.specs.Numbers as numbers;
 ghost use Rattle.xpath_parser.specs.Conversions as spec;
 ghost use Rattle.xpath_parser.specs.Functions.{arg, sum_of};
-ghost use Rattle.xpath_functions.specs.Rows.{AreRows, AreWithin};
+ghost use Rattle.xpath_functions.specs.Rows.{AreWithin};
 
 use crate::conversions::number_of;
 use crate::nodes::rows_at;
@@ -12,15 +13,13 @@ use crate::texts::row_text;
 use doc_model::Tree;
 use std::alloc::Global;
 use text_base::{NoMemory, Seq};
-use xpath_values::{Value, XNum, add, to_number};
-
-const MOST: u64 = 9_007_199_254_740_991;
+use xpath_values::{LARGEST_WHOLE, Value, XNum, add, to_number};
 
 /// The number of so many things.
 pub fn counted(n: u64) -> XNum
     ensures { result ≡ numbers.whole (pos n) }
 {
-    if n > MOST {
+    if n > LARGEST_WHOLE {
         return XNum::NaN;
     }
     XNum::Whole(n as i64)
@@ -46,7 +45,7 @@ pub fn number<T: Tree>(
 
 /// The sum of the numbers of the rows.
 fn sum_of<T: Tree>(alloc: Global, tree: &T, rows: &[u32]) -> Result<XNum, NoMemory>
-    requires { AreRows (T.document tree.now) rows.now }
+    requires { AllBelow (length (T.document tree.now)) rows.now }
     ensures { IfOk result (λ n. n ≡ sum_of (T.document tree.now) rows.now) }
 {
     let mut total = XNum::Whole(0);

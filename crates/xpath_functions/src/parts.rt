@@ -1,4 +1,4 @@
-//! Parts of a text, and tests on them, XPath 1.0, section 4.2.
+//! Parts of a text, XPath 1.0, section 4.2.
 ghost use Rattle.std.specs.Prelude.{◌≡◌};
 ghost use Rattle.std.specs.Str.{chars};
 ghost use Rattle.xpath_values.specs.declared.value.XNum.TheVariants.{Whole};
@@ -7,23 +7,6 @@ ghost use Rattle.xpath_values.specs.Strings as spec;
 use crate::texts::nothing;
 use text_base::char_sub;
 use xpath_values::XNum;
-
-/// Whether the text begins with the other.
-pub fn begins(text: &str, start: &str) -> bool
-    ensures { result ≡ spec.begins (chars text.now) (chars start.now) }
-{
-    text.starts_with(start)
-}
-
-/// Whether the other stands in the text.
-pub fn includes(text: &str, part: &str) -> bool
-    ensures { result ≡ spec.str_contains (chars text.now) (chars part.now) }
-{
-    match text.split_once(part) {
-        Some(_) => true,
-        None => false,
-    }
-}
 
 /// What stands before the first place of the other, or the empty text.
 pub fn before<'a>(text: &'a str, mark: &str) -> &'a str

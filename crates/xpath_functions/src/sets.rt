@@ -1,7 +1,7 @@
 //! Sets of borrowed texts.
 ghost use Rattle.std.specs.Prelude.{◌≡◌, ℕ, List, ◌||◌, ◌&&◌, not, false, OnOk};
 ghost use Rattle.std.specs.Str.{chars, bytes_eq};
-ghost use Rattle.xpath_functions.specs.Sets.{has_text};
+ghost use Rattle.xpath_functions.specs.inner.Sets.{has_text};
 
 use std::collections::BTreeSet;
 use text_base::NoMemory;

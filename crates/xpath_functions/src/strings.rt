@@ -12,12 +12,12 @@ ghost use Rattle.xpath_functions.specs.Rows.{AreWithin};
 use crate::building::{joined, normalized, translated};
 use crate::conversions::number_of;
 use crate::numbers::counted;
-use crate::parts::{after, before, begins, includes, part_from, part_of};
+use crate::parts::{after, before, part_from, part_of};
 use crate::texts::{nothing, text_at, text_or_row};
 use doc_model::Tree;
 use std::alloc::Global;
 use test_registry::{Asks, TestKind};
-use text_base::{NoMemory, Seq, Txt, char_len};
+use text_base::{NoMemory, Seq, Txt, begins, char_len, includes};
 use xpath_values::{Value, XNum};
 
 /// `string`
@@ -43,6 +43,7 @@ pub fn concat<T: Tree>(alloc: Global, tree: &T, args: &Seq<Value>) -> Result<Txt
 }
 
 /// `starts-with`
+#[tactic(auto, using(crate::proofs::Tests::begins_is))]
 pub fn starts_with<T: Tree>(alloc: Global, tree: &T, args: &Seq<Value>) -> Result<bool, NoMemory>
     requires { AreWithin (T.document tree.now) args.now }
     ensures { IfOk result (λ r. r ≡ strings.begins (spec.text_of (T.document tree.now) (arg 0 args.now (Nodes []))) (spec.text_of (T.document tree.now) (arg 1 args.now (Nodes [])))) }
@@ -70,6 +71,7 @@ pub fn stored<T: Tree, Q: Asks>(
 }
 
 /// `contains`
+#[tactic(auto, using(crate::proofs::Tests::contains_is))]
 pub fn contains<T: Tree>(alloc: Global, tree: &T, args: &Seq<Value>) -> Result<bool, NoMemory>
     requires { AreWithin (T.document tree.now) args.now }
     ensures { IfOk result (λ r. r ≡ strings.str_contains (spec.text_of (T.document tree.now) (arg 0 args.now (Nodes []))) (spec.text_of (T.document tree.now) (arg 1 args.now (Nodes [])))) }

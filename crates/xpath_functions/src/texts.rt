@@ -2,14 +2,15 @@
 ghost use Rattle.std.specs.Prelude.{◌≡◌, ◌<◌, ◌∷◌, [], length, IfOk, string_bytes, encode_utf8_all};
 ghost use Rattle.std.specs.Str.{chars};
 ghost use Rattle.doc_model.specs.StringValue as rows;
+ghost use Rattle.doc_model.specs.RowLists.{AllBelow};
 ghost use Rattle.xpath_values.specs.declared.value.Value.TheVariants.{Nodes};
 ghost use Rattle.xpath_values.specs.declared.value.XNum.TheVariants.{Whole};
 ghost use Rattle.xpath_values.specs.Numbers as numbers;
 ghost use Rattle.xpath_values.specs.Strings as strings;
 ghost use Rattle.xpath_parser.specs.Conversions as spec;
 ghost use Rattle.xpath_parser.specs.Functions.{arg};
-ghost use Rattle.xpath_functions.specs.Rows.{AreWithin, AreRows, IsWithin};
-ghost use Rattle.xpath_functions.specs.Texts.{chars_of};
+ghost use Rattle.xpath_functions.specs.Rows.{AreWithin, IsWithin};
+ghost use Rattle.xpath_functions.specs.inner.Texts.{chars_of};
 
 use doc_model::{Kind, Tree, string_value};
 use std::alloc::Global;
@@ -90,7 +91,7 @@ pub fn row_text<'a, T: Tree>(alloc: Global, tree: &'a T, i: u32) -> Result<Text<
 
 /// The string value of the first row, or the empty text.
 fn first_text<'a, T: Tree>(alloc: Global, tree: &'a T, rows: &[u32]) -> Result<Text<'a>, NoMemory>
-    requires { AreRows (T.document tree.now) rows.now }
+    requires { AllBelow (length (T.document tree.now)) rows.now }
     ensures { IfOk result (λ t. chars_of t ≡ spec.text_of_rows (T.document tree.now) rows.now) }
 {
     if rows.len() == 0 {

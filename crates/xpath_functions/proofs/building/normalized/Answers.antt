@@ -3,7 +3,7 @@ use Rattle.std.specs.Str.{chars}
 use Rattle.std.proofs.lemmas.Iterator.{YieldsList-from_chars}
 use Rattle.std.proofs.lemmas.Iterator.Consumers.{YieldsList-end}
 use Rattle.std.proofs.lemmas.Str.{chars-nil}
-use Rattle.xpath_functions.specs.Spacing.{start, after}
+use Rattle.xpath_functions.specs.inner.Spacing.{start, after}
 use Rattle.xpath_functions.proofs.Spaces.{spaced}
 use Rattle.xpath_functions.proofs.building.normalized.Goals as goal
 

@@ -1,6 +1,6 @@
 use Rattle.std.proofs.Common.{◌≡◌, string_bytes}
 use Rattle.std.specs.Str.{chars}
-use Rattle.xpath_functions.specs.Spacing.{start, after}
+use Rattle.xpath_functions.specs.inner.Spacing.{start, after}
 use Rattle.xpath_functions.proofs.building.normalized.Given as goal
 
 abbrev pub invariant-loop-c : goal.invariant-loop-c

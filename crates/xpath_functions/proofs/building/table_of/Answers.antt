@@ -5,7 +5,7 @@ use Rattle.std.specs.Str.{chars}
 use Rattle.std.proofs.lemmas.Iterator.{YieldsList-from_chars}
 use Rattle.std.proofs.lemmas.Iterator.Consumers.{YieldsList-end}
 use Rattle.std.proofs.lemmas.List.{length-append}
-use Rattle.xpath_functions.specs.Translations.{image_in}
+use Rattle.xpath_functions.specs.inner.Translations.{image_in}
 use Rattle.xpath_functions.proofs.Translations.{reads_on, known_more, new_more, same_cmp}
 use Rattle.xpath_functions.proofs.building.table_of.Goals as goal
 

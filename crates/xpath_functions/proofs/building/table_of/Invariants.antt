@@ -2,7 +2,7 @@ use Rattle.std.proofs.Common.{◌≡◌, ℕ, length, drop}
 use Rattle.std.specs.BTreeMap.{get_by}
 use Rattle.std.specs.Ordering.{nat_cmp}
 use Rattle.std.specs.Str.{chars, IsUtf8}
-use Rattle.xpath_functions.specs.Translations.{image_in}
+use Rattle.xpath_functions.specs.inner.Translations.{image_in}
 use Rattle.xpath_functions.proofs.building.table_of.Given as goal
 
 abbrev pub invariant-loop-c : goal.invariant-loop-c

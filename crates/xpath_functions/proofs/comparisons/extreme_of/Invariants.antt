@@ -1,5 +1,5 @@
 use Rattle.std.proofs.Common.{◌≡◌, take}
-use Rattle.xpath_functions.specs.Extremes.{extreme_of}
+use Rattle.xpath_functions.specs.inner.Extremes.{extreme_of}
 use Rattle.xpath_functions.proofs.comparisons.extreme_of.Given as goal
 
 abbrev pub invariant-loop-x : goal.invariant-loop-x

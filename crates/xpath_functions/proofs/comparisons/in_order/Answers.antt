@@ -1,6 +1,6 @@
 use Rattle.std.proofs.Common.{not, ◌∙◌, ap}
 use Rattle.xpath_values.specs.Compares.{num_fits}
-use Rattle.xpath_functions.specs.Extremes.{extreme_of, goes_up}
+use Rattle.xpath_functions.specs.inner.Extremes.{extreme_of, goes_up}
 use Rattle.xpath_functions.proofs.Orders.{orders}
 use Rattle.xpath_functions.proofs.comparisons.in_order.Goals as goal
 

@@ -3,8 +3,8 @@ use Rattle.std.specs.List.{list_any}
 use Rattle.std.specs.Str.{chars}
 use Rattle.std.proofs.lemmas.List.{drop_all}
 use Rattle.doc_model.specs.StringValue.{string_value}
-use Rattle.xpath_functions.specs.Sets.{has_text}
-use Rattle.xpath_functions.specs.Texts.{chars_of}
+use Rattle.xpath_functions.specs.inner.Sets.{has_text}
+use Rattle.xpath_functions.specs.inner.Texts.{chars_of}
 use Rattle.xpath_functions.proofs.Pairs.{shared, any_at}
 use Rattle.xpath_functions.proofs.comparisons.share.Goals as goal
 

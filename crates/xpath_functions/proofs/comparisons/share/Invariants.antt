@@ -1,7 +1,7 @@
 use Rattle.std.proofs.Common.{◌≡◌, drop}
 use Rattle.std.specs.List.{list_any}
 use Rattle.doc_model.specs.StringValue.{string_value}
-use Rattle.xpath_functions.specs.Sets.{has_text}
+use Rattle.xpath_functions.specs.inner.Sets.{has_text}
 use Rattle.xpath_functions.proofs.comparisons.share.Given as goal
 
 abbrev pub invariant-loop-y : goal.invariant-loop-y

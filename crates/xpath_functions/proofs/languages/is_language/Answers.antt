@@ -5,6 +5,7 @@ use Rattle.std.proofs.lemmas.Str.{IsUtf8-string_bytes}
 use Rattle.xpath_values.specs.Strings.{begins}
 use Rattle.xpath_functions.proofs.Lists.{dash_chars}
 use Rattle.xpath_functions.proofs.Pushes.{encoded, pushed}
+use Rattle.xpath_functions.proofs.Tests.{begins_is}
 use Rattle.xpath_functions.proofs.languages.is_language.Goals as goal
 
 pub returns-then-compare_atoms : goal.returns-then-compare_atoms
@@ -31,5 +32,5 @@ returns c = λ doc.
     ap chars c.as_str-4.ensures.value
     ∙ pushed (string_bytes c.in_ok-start.start) (string_bytes c.push_str.new.self) (codes "-") (IsUtf8-string_bytes c.in_ok-start.start) c.in_ok-push_str.ensures.bytes
     ∙ ap (λ v. v ++ chars (codes "-")) start_chars ∙ ap (λ v. wanted ++ v) dash_chars in
-    c.begins.ensures ∙ ap (λ v. begins v (chars c.as_str-4.result.now)) (ap chars c.as_str-3.ensures.value ∙ low_chars) ∙ ap (begins low) behind
+    c.begins.ensures ∙ begins_is (chars c.as_str-3.result.now) (chars c.as_str-4.result.now) ∙ ap (λ v. begins v (chars c.as_str-4.result.now)) (ap chars c.as_str-3.ensures.value ∙ low_chars) ∙ ap (begins low) behind
     ∙ sym (ap (λ b. b || begins low (wanted ++ codes "-")) other)
