@@ -8,7 +8,7 @@ use Rattle.std.proofs.lemmas.Bool.Decides.{Decides-int_eq}
 use Rattle.std.proofs.lemmas.List.{length-reverse}
 use Rattle.doc_model.specs.Document.{Document, rows}
 use Rattle.doc_model.specs.Axes.{is_reverse, axis_list}
-use Rattle.doc_model.specs.RowLists.{has, Run}
+use Rattle.doc_model.specs.RowLists.{has, Run, AllBelow}
 use Rattle.doc_model.proofs.Runs.{canonical, filter_run, same_filter}
 use Rattle.xpath_values.specs.declared.value.XNum.TheVariants.{Whole, NaN}
 use Rattle.xpath_values.specs.declared.value.Value.TheVariants.{Nodes, Num}
@@ -23,10 +23,9 @@ use Rattle.xpath_parser.specs.Functions.{Context, called}
 use Rattle.xpath_parser.specs.Denote.{Meaning, denote, walk_of, rows_in, kept, kept_from, keeps}
 use Rattle.xpath_parser.proofs.Equations.{at_path, at_here, at_step}
 use Rattle.xpath_parser.proofs.Equations.{at_number as at_number_eq}
-use Rattle.xpath_eval.specs.Steps.{IsLoneStep, IsLonePath, BeginsWithOne}
+use Rattle.xpath_eval.specs.inner.Steps.{IsLoneStep, IsLonePath, BeginsWithOne}
 use Rattle.xpath_eval.proofs.Covering.{plain_walk}
 use Rattle.std.proofs.lemmas.List.Elements.{All-nil, All-cons, All-head}
-use Rattle.xpath_eval.specs.Rows.{AllBelow}
 use Rattle.xpath_eval.proofs.Kept.{kept_from_same}
 use Rattle.xpath_eval.proofs.Lists.{has-reverse}
 

@@ -1,5 +1,6 @@
 -- Rows that add nothing to the rows of a step.
 use Rattle.std.proofs.Common.{◌≡◌, refl, sym, ◌∙◌, ap, subst, ℕ, zero, suc, ◌+◌, ◌-◌, ◌<◌, ◌≤◌, Bool, true, false, ◌||◌, ◌&&◌, eqb, ltb, cond, List, [], ◌∷◌, ◌++◌, length, map, take, leb, arith, inl, inr, ◌⊎◌, lt-ltb}
+use Rattle.std.specs.Cmp as std_cmp
 use Rattle.std.specs.Prelude.{filter, reverse, not, IsTrue}
 use Rattle.std.specs.List.{list_any, range_with_len}
 use Rattle.std.proofs.lemmas.Bool.{and_parts, cases_lt, eqb-true, eq-eqb, ltb-true, leb-true, both_ways, false_from_ne_true, or_cases}
@@ -10,14 +11,13 @@ use Rattle.doc_model.specs.declared.NodeTest.{NodeTest}
 use Rattle.doc_model.specs.Document.{Document, row, is_attribute, below, IsDocument}
 use Rattle.doc_model.specs.Axes.{on_axis, passes, is_reverse, axis_list}
 use Rattle.doc_model.specs.Ends.{IsEnd}
-use Rattle.doc_model.specs.RowLists.{has}
+use Rattle.doc_model.specs.RowLists.{has, AllBelow}
 use Rattle.doc_model.proofs.Runs.{same_filter_below, not_below, filter_run, has_append}
 use Rattle.doc_model.proofs.Below.{Small, small, below_cases, below_trans, below_by_end, past_end}
 use Rattle.xpath_parser.specs.declared.expression.Step.{Step, out-Step}
 use Rattle.xpath_parser.specs.Denote.{denote, walk_of, rows_in, kept}
 use Rattle.xpath_parser.proofs.Equations.{at_step}
-use Rattle.xpath_eval.specs.Contexts.{AddsNothing, Covers, IsCovered}
-use Rattle.xpath_eval.specs.Rows.{AllBelow}
+use Rattle.xpath_eval.specs.inner.Contexts.{AddsNothing, Covers, IsCovered}
 use Rattle.xpath_eval.proofs.Lists.{member_of_all, all_by_members, has-reverse}
 
 pub or_first : (a b : Bool) → a ≡ true → (a || b) ≡ true
@@ -48,11 +48,6 @@ told_le a b h = leb-true a b h
 
 pub all_take : (i n : ℕ) (xs : List ℕ) → AllBelow n xs → AllBelow n (take i xs)
 all_take i n xs below = All-take (λ y. y < n) i xs below
-
-pub same_truth : (a b : Bool) → (a ≡ true → b ≡ true) → (b ≡ true → a ≡ true) → a ≡ b
-same_truth true b f g = sym (f refl)
-same_truth false true f g = g refl
-same_truth false false f g = refl
 
 -- ---- members
 
@@ -113,7 +108,7 @@ module _ (doc : Document) where
   covered_rows a t all few c =
       same_filter_below (λ y. list_any (λ x. has y (axis_list doc x a t)) few) (λ y. list_any (λ x. has y (axis_list doc x a t)) all) (length doc) 0 (λ y low l.
       let there : y < length doc = omega (arith, l) in
-      same_truth _ _
+      std_cmp.both_ways _ _
       (λ h. let m = any_member (λ x. has y (axis_list doc x a t)) few h in member_any (λ x. has y (axis_list doc x a t)) all m.0 (c.some m.0 m.1) m.2)
       (λ h. let m = any_member (λ x. has y (axis_list doc x a t)) all h in
       let z = c.all m.0 m.1 in

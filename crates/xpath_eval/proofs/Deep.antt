@@ -1,5 +1,6 @@
 -- The step that `//` stands for and a child step after it are one step down.
 use Rattle.std.proofs.Common.{◌≡◌, refl, sym, ◌∙◌, ap, subst, ℕ, ◌<◌, true, false, eqb, ltb, List, length, map, arith, inl, inr}
+use Rattle.std.specs.Cmp as std_cmp
 use Rattle.std.specs.List.{list_any}
 use Rattle.std.specs.Prelude.{not}
 use Rattle.std.proofs.lemmas.Bool.{and_parts, eqb-true, eq-eqb, ltb-true, or_cases, lt-ltb}
@@ -13,8 +14,8 @@ use Rattle.doc_model.proofs.Runs.{same_filter_below}
 use Rattle.doc_model.proofs.Below.{small, below_cases, below_parent, below_up, below_some}
 use Rattle.xpath_parser.specs.declared.expression.Step.{Step, out-Step}
 use Rattle.xpath_parser.specs.Denote.{denote, walk_of, rows_in, kept}
-use Rattle.xpath_eval.specs.Steps.{IsAllBelow, IsTestedChild}
-use Rattle.xpath_eval.proofs.Covering.{or_first, or_second, both_true, not_true, same_truth, any_member, member_any, told_from, has_axis, plain_walk}
+use Rattle.xpath_eval.specs.inner.Steps.{IsAllBelow, IsTestedChild}
+use Rattle.xpath_eval.proofs.Covering.{or_first, or_second, both_true, not_true, any_member, member_any, told_from, has_axis, plain_walk}
 use Rattle.xpath_eval.proofs.Filtering.{tested_after, filter_same, any_by}
 use Rattle.xpath_eval.proofs.Gathers.{rows_in_run}
 use Rattle.xpath_eval.proofs.Lists.{member_of_all, run_below}
@@ -89,7 +90,7 @@ module _ (doc : Document) where
       let firsts = rows_in doc xs itself_or_below in
       same_filter_below (λ y. list_any (λ z. has y (axis_list doc z axis.Child t)) firsts) (λ y. list_any (λ x. has y (axis_list doc x axis.Descendant t)) xs) (length doc) 0 (λ y low l.
       let there : y < length doc = omega (arith, l) in
-      same_truth _ _
+      std_cmp.both_ways _ _
       (λ h. let z = any_member (λ z. has y (axis_list doc z axis.Child t)) firsts h in
       let within : z.0 < length doc = member_of_all (λ v. v < length doc) firsts z.0 (run_below 0 (length doc) firsts (rows_in_run doc xs itself_or_below)) z.1 in
       let told = told_from (λ v. list_any (λ x. has v (itself_or_below x)) xs) (length doc) 0 z.0 (omega arith) (omega (arith, within)) in

@@ -4,6 +4,7 @@ use Rattle.std.specs.Prelude.{filter}
 use Rattle.std.specs.List.{list_any, list_all}
 use Rattle.std.proofs.lemmas.Bool.{eqb-true}
 use Rattle.std.proofs.lemmas.List.Elements.{All-head, All-tail}
+use Rattle.text_base.proofs.Lists.{filter_twice}
 use Rattle.doc_model.specs.Document.{Document, rows}
 use Rattle.doc_model.specs.Axes.{axis_list}
 use Rattle.doc_model.specs.RowLists.{has}
@@ -15,7 +16,7 @@ use Rattle.xpath_parser.specs.Conversions.{truth_of}
 use Rattle.xpath_parser.specs.Functions.{Context}
 use Rattle.xpath_parser.specs.Denote.{denote, walk_of, rows_in, kept, kept_from, keeps}
 use Rattle.xpath_parser.proofs.Equations.{at_step}
-use Rattle.xpath_eval.specs.Tests.{IsTest, AreTests, is_number}
+use Rattle.xpath_eval.specs.inner.Tests.{IsTest, AreTests, is_number}
 
 pub keeps_truth : (at : ℕ) (v : Value) → is_number v ≡ false → keeps at v ≡ truth_of v
 keeps_truth at (Nodes xs) h = refl
@@ -26,15 +27,6 @@ keeps_truth at (Truth b) h = refl
 filter_all : (xs : List ℕ) → xs ≡ filter (λ y. true) xs
 filter_all [] = refl
 filter_all (x ∷ xs) = ap (λ r. x ∷ r) (filter_all xs)
-
-filter_twice_at : (p q : ℕ → Bool) (x : ℕ) (xs : List ℕ) (b : Bool) → p x ≡ b → filter q (filter p xs) ≡ filter (λ y. p y && q y) xs
-    → filter q (cond b (x ∷ filter p xs) (filter p xs)) ≡ cond (b && q x) (x ∷ filter (λ y. p y && q y) xs) (filter (λ y. p y && q y) xs)
-filter_twice_at p q x xs true e ih = ap (λ r. cond (q x) (x ∷ r) r) ih
-filter_twice_at p q x xs false e ih = ih
-
-filter_twice : (p q : ℕ → Bool) (xs : List ℕ) → filter q (filter p xs) ≡ filter (λ y. p y && q y) xs
-filter_twice p q [] = refl
-filter_twice p q (x ∷ xs) = filter_twice_at p q x xs (p x) refl (filter_twice p q xs)
 
 pub filter_same : (p q : ℕ → Bool) (xs : List ℕ) → ((y : ℕ) → p y ≡ q y) → filter p xs ≡ filter q xs
 filter_same p q [] h = refl

@@ -1,5 +1,6 @@
 -- Whether there is a row, asked of the rows one by one.
 use Rattle.std.proofs.Common.{◌≡◌, refl, sym, ◌∙◌, ap, subst, ℕ, suc, ◌+◌, ◌-◌, ◌<◌, Bool, true, false, ◌||◌, cond, List, [], ◌∷◌, ◌++◌, length, take, map, get_or, arith}
+use Rattle.std.specs.Cmp as std_cmp
 use Rattle.std.specs.Prelude.{filter, nat_lt, Some, None, slice_get}
 use Rattle.std.specs.List.{list_any}
 use Rattle.std.proofs.Math.Seq.{take-append_seam}
@@ -8,16 +9,15 @@ use Rattle.std.proofs.lemmas.List.Elements.{All-head}
 use Rattle.doc_model.specs.declared.Axis.TheVariants as axis
 use Rattle.doc_model.specs.Axes.{axis_list}
 use Rattle.doc_model.specs.Document.{Document, IsDocument}
-use Rattle.doc_model.specs.RowLists.{has}
+use Rattle.doc_model.specs.RowLists.{has, AllBelow}
 use Rattle.xpath_parser.specs.declared.expression.Expr.{Expr}
 use Rattle.xpath_parser.specs.declared.expression.Step.{Step, out-Step}
 use Rattle.xpath_parser.specs.Conversions.{is_any}
 use Rattle.xpath_parser.specs.Denote.{walk_of, rows_in, path}
-use Rattle.xpath_eval.specs.Rows.{AllBelow}
-use Rattle.xpath_eval.specs.Steps.{EndsBelow}
-use Rattle.xpath_eval.specs.Tests.{AreTests, passes_all}
+use Rattle.xpath_eval.specs.inner.Steps.{EndsBelow}
+use Rattle.xpath_eval.specs.inner.Tests.{AreTests, passes_all}
 use Rattle.xpath_eval.proofs.Counting.{any_length}
-use Rattle.xpath_eval.proofs.Covering.{same_truth, any_member, member_any, told_from}
+use Rattle.xpath_eval.proofs.Covering.{any_member, member_any, told_from}
 use Rattle.xpath_eval.proofs.Deep.{tested_below}
 use Rattle.xpath_eval.proofs.Filtering.{any_by, tests_filter, tested_after}
 use Rattle.xpath_eval.proofs.Gathers.{rows_in_run}
@@ -49,7 +49,7 @@ module _ (doc : Document) where
   any_in p xs lists below =
       let told : (y : ℕ) → y < length doc → has y (rows_in doc xs lists) ≡ list_any (λ x. has y (lists x)) xs
       = λ y l. told_from (λ v. list_any (λ x. has v (lists x)) xs) (length doc) 0 y (omega arith) (omega (arith, l)) in
-      same_truth _ _
+      std_cmp.both_ways _ _
       (λ h. let x = any_member (λ x. list_any p (lists x)) xs h in
       let y = any_member p (lists x.0) x.2 in
       let l : y.0 < length doc = member_of_all (λ v. v < length doc) (lists x.0) y.0 (below x.0) y.1 in

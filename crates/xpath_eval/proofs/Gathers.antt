@@ -5,7 +5,7 @@ use Rattle.std.proofs.lemmas.List.Folds.{list_any-append}
 use Rattle.std.proofs.lemmas.List.{take_all}
 use Rattle.std.proofs.lemmas.List.Elements.{All-nil}
 use Rattle.doc_model.specs.Document.{Document}
-use Rattle.doc_model.specs.RowLists.{Run, has}
+use Rattle.doc_model.specs.RowLists.{Run, has, AllBelow}
 use Rattle.doc_model.proofs.Runs.{filter_run, gathered}
 use Rattle.xpath_values.specs.declared.value.Value.{Value}
 use Rattle.xpath_parser.specs.declared.expression.Func.{Func}
@@ -15,7 +15,7 @@ use Rattle.xpath_parser.specs.declared.expression.Infix.TheVariants as op
 use Rattle.xpath_parser.specs.Conversions.{rows_of}
 use Rattle.xpath_parser.specs.Functions.{Context, called}
 use Rattle.xpath_parser.specs.Denote.{rows_in, path, applied, joined, Walk}
-use Rattle.xpath_eval.specs.Rows.{AllBelow, AreRows}
+use Rattle.xpath_eval.specs.Rows.{AreRows}
 use Rattle.xpath_eval.proofs.Lists.{member_of_all, all_by_members, or_cases, run_below}
 
 -- a list has the rows of so many lists, all of them below n

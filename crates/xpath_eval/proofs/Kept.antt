@@ -8,13 +8,12 @@ use Rattle.doc_model.specs.Document.{Document, rows}
 use Rattle.doc_model.specs.Axes.{axis_list, is_reverse, on_axis, passes}
 use Rattle.doc_model.specs.declared.Axis.{Axis}
 use Rattle.doc_model.specs.declared.NodeTest.{NodeTest}
-use Rattle.doc_model.specs.RowLists.{Run}
+use Rattle.doc_model.specs.RowLists.{Run, AllBelow}
 use Rattle.doc_model.proofs.Runs.{run_lower, filter_run}
 use Rattle.xpath_parser.specs.declared.expression.Step.{Step, out-Step}
 use Rattle.xpath_parser.specs.Functions.{Context}
 use Rattle.xpath_parser.specs.Denote.{Meaning, kept, kept_from, keeps, denote, walk_of}
 use Rattle.xpath_parser.proofs.Equations.{at_step}
-use Rattle.xpath_eval.specs.Rows.{AllBelow}
 use Rattle.xpath_eval.proofs.Lists.{run_below, run_few, all_by_same, has-reverse}
 
 -- ---- order

@@ -8,9 +8,8 @@ use Rattle.std.proofs.lemmas.List.Folds.{list_any_at}
 use Rattle.std.proofs.lemmas.List.{reverse-append, take_more, get_or-take, length-take-le}
 use Rattle.std.proofs.Math.Seq.{drop-cons}
 use Rattle.std.proofs.lemmas.List.Elements.{All-nil, All-cons, All-head, All-tail, All-more}
-use Rattle.doc_model.specs.RowLists.{Run, has}
+use Rattle.doc_model.specs.RowLists.{Run, has, AllBelow}
 use Rattle.doc_model.proofs.Runs.{run_le, run_lower, has_append}
-use Rattle.xpath_eval.specs.Rows.{AllBelow}
 
 pub or_cases : (a b : Bool) → (a || b) ≡ true → (a ≡ true) ⊎ (b ≡ true)
 or_cases true b h = inl refl

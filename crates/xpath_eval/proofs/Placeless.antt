@@ -20,7 +20,7 @@ use Rattle.xpath_parser.specs.Conversions.{rows_of, truth_of, number_of}
 use Rattle.xpath_parser.specs.Functions.{Context, called}
 use Rattle.xpath_parser.specs.Denote.{denote, walk_of, arm_at, rows_in, has, joined, applied, path, kept, signed}
 use Rattle.xpath_parser.proofs.Equations as eqs
-use Rattle.xpath_eval.specs.Tests.{IsPlaceless, IsPlacelessStart, EachPlaceless, EachOperandPlaceless, IsNoNumber, EndsCompared, is_number, is_placed, gives_number, compares}
+use Rattle.xpath_eval.specs.inner.Tests.{IsPlaceless, IsPlacelessStart, EachPlaceless, EachOperandPlaceless, IsNoNumber, EndsCompared, is_number, is_placed, gives_number, compares}
 
 any_same : {A : Type 0} (p q : A → Bool) (xs : List A) → All (λ x. p x ≡ q x) xs → list_any p xs ≡ list_any q xs
 any_same p q [] h = refl

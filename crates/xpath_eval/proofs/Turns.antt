@@ -5,7 +5,7 @@ use Rattle.std.proofs.Math.ListN.{drop_of_length-le}
 use Rattle.std.proofs.lemmas.List.{take_more_set, drop-set-lt, length-set, append-nil}
 use Rattle.std.proofs.lemmas.List.Elements.{All-set, All-get_or}
 use Rattle.xpath_parser.specs.Denote.{Meaning, kept_from, keeps}
-use Rattle.xpath_eval.specs.Rows.{AllBelow}
+use Rattle.doc_model.specs.RowLists.{AllBelow}
 
 -- the first `end` places have what is kept of the rows before i, and the rows from i on still stand where they stood
 pub record Keeping (n : ℕ) (p : Meaning) (size : ℕ) (start now : List ℕ) (i end : ℕ) : Type 0 where

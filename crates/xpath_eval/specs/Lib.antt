@@ -1,5 +1,2 @@
-pub mod Contexts
-pub mod Places
 pub mod Rows
-pub mod Steps
-pub mod Tests
+pub mod inner

@@ -2,7 +2,7 @@
 ghost use Rattle.std.specs.Prelude.{◌≡◌, ◌<◌, ◌≤◌, ◌∷◌, [], length, IfOk};
 ghost use Rattle.doc_model.specs.Axes.{axis_list};
 ghost use Rattle.xpath_parser.specs.Denote as spec;
-ghost use Rattle.xpath_eval.specs.Rows.{AllBelow};
+ghost use Rattle.doc_model.specs.RowLists.{AllBelow};
 
 use crate::contexts::{can_cover, covering};
 use crate::forms::axis_rows;

@@ -3,28 +3,12 @@ ghost use Rattle.std.specs.Prelude.{◌≡◌, ◌<◌, ◌++◌, ◌∷◌, ◌
 ghost use Rattle.doc_model.specs.Axes.{are_siblings};
 ghost use Rattle.doc_model.specs.Document as document;
 ghost use Rattle.doc_model.specs.Document.{below};
-ghost use Rattle.xpath_eval.specs.Contexts.{AddsNothing, Covers, IsCovered};
-ghost use Rattle.xpath_eval.specs.Rows.{AllBelow};
+ghost use Rattle.xpath_eval.specs.inner.Contexts.{AddsNothing, Covers, IsCovered};
+ghost use Rattle.doc_model.specs.RowLists.{AllBelow};
 
-use doc_model::{Axis, Kind, Tree};
+use doc_model::{Axis, Tree, is_attribute, is_below};
 use std::alloc::Global;
 use text_base::NoMemory;
-
-fn is_attribute<T: Tree>(tree: &T, x: u32) -> bool
-    requires { x < length (T.document tree.now) }
-    ensures { result ≡ document.is_attribute (T.document tree.now) x }
-{
-    matches!(tree.kind(x), Kind::Attribute)
-}
-
-/// Whether `x` is below `z`.
-fn is_below<T: Tree>(tree: &T, z: u32, x: u32) -> bool
-    requires row { z < length (T.document tree.now) }
-    requires other { x < length (T.document tree.now) }
-    ensures { result ≡ below (T.document tree.now) z x }
-{
-    z < x && x < tree.end(z)
-}
 
 /// Whether `x` is below `z` and no attribute.
 fn is_within<T: Tree>(tree: &T, z: u32, x: u32) -> bool

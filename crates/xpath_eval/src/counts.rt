@@ -6,7 +6,7 @@ ghost use Rattle.xpath_values.specs.declared.value.Value.TheVariants as value;
 ghost use Rattle.xpath_parser.specs.declared.expression.Func.TheVariants as f;
 ghost use Rattle.xpath_parser.specs.declared.expression.Step.{out-Step};
 ghost use Rattle.xpath_parser.specs.Denote as spec;
-ghost use Rattle.xpath_eval.specs.Steps.{IsLonePath, IsLoneStep, IsOnlyStep};
+ghost use Rattle.xpath_eval.specs.inner.Steps.{IsLonePath, IsLoneStep, IsOnlyStep};
 
 use crate::forms::put_if;
 use doc_model::Axes;

@@ -1,7 +1,7 @@
 //! The step that `//` stands for, and a child step behind it, which together are one step down.
 ghost use Rattle.std.specs.Prelude.{◌≡◌, ◌≤◌, length, IsTrue};
 ghost use Rattle.doc_model.specs.declared.Axis.TheVariants as axis_is;
-ghost use Rattle.xpath_eval.specs.Steps.{EndsBelow, IsAllBelow, IsTestedChild};
+ghost use Rattle.xpath_eval.specs.inner.Steps.{EndsBelow, IsAllBelow, IsTestedChild};
 
 use crate::tests_of_rows::are_tests;
 use doc_model::{Axis, NodeTest};

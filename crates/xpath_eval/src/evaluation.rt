@@ -9,8 +9,9 @@ ghost use Rattle.xpath_parser.specs.Conversions as conversions;
 ghost use Rattle.xpath_parser.specs.Conversions.{rows_of};
 ghost use Rattle.xpath_parser.specs.Denote as spec;
 ghost use Rattle.xpath_functions.specs.Rows.{AreWithin, IsWithin};
-ghost use Rattle.xpath_eval.specs.Places.{context};
-ghost use Rattle.xpath_eval.specs.Rows.{AreRows, AllBelow};
+ghost use Rattle.xpath_eval.specs.inner.Places.{context};
+ghost use Rattle.doc_model.specs.RowLists.{AllBelow};
+ghost use Rattle.xpath_eval.specs.Rows.{AreRows};
 
 use crate::axis_steps::axis_from;
 use crate::counts::{axis_number, is_count, lone_step};

@@ -8,8 +8,9 @@ ghost use Rattle.xpath_parser.specs.Denote as spec;
 ghost use Rattle.xpath_parser.specs.Functions as functions;
 ghost use Rattle.xpath_parser.specs.Asking.{stored_kind, IsStored};
 ghost use Rattle.xpath_functions.specs.Rows.{AreWithin, IsWithin};
-ghost use Rattle.xpath_eval.specs.Places.{context};
-ghost use Rattle.xpath_eval.specs.Rows.{AreRows, AllBelow};
+ghost use Rattle.xpath_eval.specs.inner.Places.{context};
+ghost use Rattle.doc_model.specs.RowLists.{AllBelow};
+ghost use Rattle.xpath_eval.specs.Rows.{AreRows};
 
 use crate::place::Place;
 use doc_model::{Axes, Axis, NodeTest, Tree};

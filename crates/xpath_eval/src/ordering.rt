@@ -1,8 +1,7 @@
 //! Lists of rows brought into document order.
 ghost use Rattle.std.specs.Prelude.{◌≡◌, ◌||◌, ℕ, IsTrue, IfOk};
 ghost use Rattle.std.specs.List.Sorted.{IsStrictlyIncreasing};
-ghost use Rattle.doc_model.specs.RowLists.{has, Run};
-ghost use Rattle.xpath_eval.specs.Rows.{AllBelow};
+ghost use Rattle.doc_model.specs.RowLists.{has, Run, AllBelow};
 
 use text_base::NoMemory;
 

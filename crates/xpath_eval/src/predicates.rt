@@ -4,8 +4,9 @@ ghost use Rattle.std.specs.List.{All};
 ghost use Rattle.xpath_parser.specs.Asking.{AsksOnly};
 ghost use Rattle.xpath_parser.specs.Conversions.{rows_of};
 ghost use Rattle.xpath_parser.specs.Denote as spec;
-ghost use Rattle.xpath_eval.specs.Places.{context};
-ghost use Rattle.xpath_eval.specs.Rows.{AreRows, AllBelow};
+ghost use Rattle.xpath_eval.specs.inner.Places.{context};
+ghost use Rattle.doc_model.specs.RowLists.{AllBelow};
+ghost use Rattle.xpath_eval.specs.Rows.{AreRows};
 
 use crate::counts::only;
 use crate::evaluation::value_at;

@@ -3,8 +3,8 @@ ghost use Rattle.std.specs.Prelude.{◌≡◌, ◌<◌, ◌≤◌, length, map, 
 ghost use Rattle.doc_model.specs.Axes.{axis_list};
 ghost use Rattle.xpath_parser.specs.declared.expression.Step.{out-Step};
 ghost use Rattle.xpath_parser.specs.Denote as spec;
-ghost use Rattle.xpath_eval.specs.Rows.{AllBelow};
-ghost use Rattle.xpath_eval.specs.Steps.{BeginsWithOne};
+ghost use Rattle.doc_model.specs.RowLists.{AllBelow};
+ghost use Rattle.xpath_eval.specs.inner.Steps.{BeginsWithOne};
 
 use crate::forms::axis_rows;
 use doc_model::{Axes, Axis, NodeTest};

@@ -1,7 +1,7 @@
 //! Predicates that ask about the row alone, whatever its position. They may be asked once for each row, after the rows
 //! of all context rows have been put together.
 ghost use Rattle.std.specs.Prelude.{◌≡◌, IsTrue};
-ghost use Rattle.xpath_eval.specs.Tests.{AreTests, EachOperandPlaceless, EndsCompared, EachPlaceless, IsNoNumber, IsPlaceless, IsPlacelessStart, IsTest, compares, gives_number, is_placed};
+ghost use Rattle.xpath_eval.specs.inner.Tests.{AreTests, EachOperandPlaceless, EndsCompared, EachPlaceless, IsNoNumber, IsPlaceless, IsPlacelessStart, IsTest, compares, gives_number, is_placed};
 
 use xpath_parser::{Expr, Func, Infix, Operand, Start};
 

@@ -10,9 +10,10 @@ ghost use Rattle.xpath_parser.specs.Asking.{AsksOnly, StepAsks};
 ghost use Rattle.xpath_parser.specs.Conversions as conversions;
 ghost use Rattle.xpath_parser.specs.Conversions.{is_any};
 ghost use Rattle.xpath_parser.specs.Denote as spec;
-ghost use Rattle.xpath_eval.specs.Places.{context};
-ghost use Rattle.xpath_eval.specs.Rows.{AreRows, AllBelow};
-ghost use Rattle.xpath_eval.specs.Tests.{passes_all};
+ghost use Rattle.xpath_eval.specs.inner.Places.{context};
+ghost use Rattle.doc_model.specs.RowLists.{AllBelow};
+ghost use Rattle.xpath_eval.specs.Rows.{AreRows};
+ghost use Rattle.xpath_eval.specs.inner.Tests.{passes_all};
 
 use crate::contexts::{covering, may_cover};
 use crate::counts::lone_path;

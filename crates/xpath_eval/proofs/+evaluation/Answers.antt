@@ -3,7 +3,7 @@ use Rattle.std.specs.Prelude.{IfOk}
 use Rattle.std.specs.List.{All, list_any, list_all}
 use Rattle.std.proofs.lemmas.List.{take_more, take_all}
 use Rattle.std.proofs.lemmas.List.Elements.{All-append, All-cons, All-nil}
-use Rattle.doc_model.specs.RowLists.{has, Run}
+use Rattle.doc_model.specs.RowLists.{has, Run, AllBelow}
 use Rattle.doc_model.specs.Axes.{axis_list}
 use Rattle.doc_model.specs.declared.Axis.TheVariants as axis
 use Rattle.xpath_values.specs.declared.value.Value.{Value}
@@ -18,11 +18,11 @@ use Rattle.xpath_parser.specs.Functions.{called}
 use Rattle.xpath_parser.specs.Denote as spec
 use Rattle.xpath_parser.proofs.Equations as eqs
 use Rattle.xpath_functions.specs.Rows.{AreWithin, IsWithin}
-use Rattle.xpath_eval.specs.Places.{context}
-use Rattle.xpath_eval.specs.Rows.{AreRows, AllBelow}
+use Rattle.xpath_eval.specs.inner.Places.{context}
+use Rattle.xpath_eval.specs.Rows.{AreRows}
 use Rattle.xpath_values.specs.Numbers.{whole}
-use Rattle.xpath_eval.specs.Steps.{IsLoneStep, IsTestedChild}
-use Rattle.xpath_eval.specs.Tests.{AreTests, passes_all}
+use Rattle.xpath_eval.specs.inner.Steps.{IsLoneStep, IsTestedChild}
+use Rattle.xpath_eval.specs.inner.Tests.{AreTests, passes_all}
 use Rattle.xpath_parser.specs.Asking.{AsksOnly, OperandAsks, StepAsks}
 use Rattle.xpath_parser.specs.declared.expression.Expr as expr
 use Rattle.xpath_parser.specs.declared.expression.Operand as operand

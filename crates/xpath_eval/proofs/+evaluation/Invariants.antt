@@ -7,9 +7,10 @@ use Rattle.xpath_parser.specs.declared.expression.Operand.{Operand}
 use Rattle.xpath_parser.specs.Conversions as conversions
 use Rattle.xpath_parser.specs.Denote as spec
 use Rattle.xpath_functions.specs.Rows.{AreWithin}
-use Rattle.xpath_eval.specs.Places.{context}
-use Rattle.xpath_eval.specs.Rows.{AreRows, AllBelow}
-use Rattle.xpath_eval.specs.Tests.{passes_all}
+use Rattle.xpath_eval.specs.inner.Places.{context}
+use Rattle.doc_model.specs.RowLists.{AllBelow}
+use Rattle.xpath_eval.specs.Rows.{AreRows}
+use Rattle.xpath_eval.specs.inner.Tests.{passes_all}
 use Rattle.xpath_eval.proofs.Gathers.{Gathered}
 use Rattle.xpath_eval.proofs.Turns.{Keeping}
 use Rattle.xpath_eval.proofs.+evaluation.Given as goal

@@ -1,7 +1,7 @@
 use Rattle.std.proofs.Common.{sym, subst, ℕ, ◌≤◌, List, length}
 use Rattle.doc_model.specs.Axes.{axis_list}
 use Rattle.xpath_parser.specs.Denote.{rows_in}
-use Rattle.xpath_eval.specs.Rows.{AllBelow}
+use Rattle.doc_model.specs.RowLists.{AllBelow}
 use Rattle.xpath_eval.proofs.Gathers as gathers
 use Rattle.xpath_eval.proofs.Lists as lists
 use Rattle.xpath_eval.proofs.axis_steps.axis_from.Goals as goal

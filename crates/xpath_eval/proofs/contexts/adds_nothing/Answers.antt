@@ -2,7 +2,7 @@ use Rattle.std.proofs.Common.{◌≡◌, sym, ◌∙◌, subst, true, ◌≤◌}
 use Rattle.std.specs.Prelude.{not}
 use Rattle.std.proofs.lemmas.Bool.{and_parts}
 use Rattle.doc_model.specs.Document.{below, is_attribute}
-use Rattle.xpath_eval.specs.Contexts.{AddsNothing}
+use Rattle.xpath_eval.specs.inner.Contexts.{AddsNothing}
 use Rattle.xpath_eval.proofs.Covering as covering
 use Rattle.xpath_eval.proofs.contexts.adds_nothing.Goals as goal
 

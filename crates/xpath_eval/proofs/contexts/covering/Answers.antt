@@ -1,6 +1,6 @@
 use Rattle.std.proofs.Common.{◌∙◌, ap}
 use Rattle.std.specs.Prelude.{reverse}
-use Rattle.xpath_eval.specs.Contexts.{Covers}
+use Rattle.xpath_eval.specs.inner.Contexts.{Covers}
 use Rattle.xpath_eval.proofs.Covering as covering
 use Rattle.xpath_eval.proofs.Lists.{if_ok_from}
 use Rattle.xpath_eval.proofs.contexts.covering.Goals as goal

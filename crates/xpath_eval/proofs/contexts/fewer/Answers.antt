@@ -2,8 +2,8 @@ use Rattle.std.proofs.Common.{◌≡◌, sym, subst, false, [], ◌<◌, ◌+◌
 use Rattle.std.specs.Prelude.{not}
 use Rattle.std.proofs.lemmas.List.{take_more}
 use Rattle.std.proofs.lemmas.List.Elements.{All-nil}
-use Rattle.xpath_eval.specs.Contexts.{Covers, IsCovered}
-use Rattle.xpath_eval.specs.Rows.{AllBelow}
+use Rattle.xpath_eval.specs.inner.Contexts.{Covers, IsCovered}
+use Rattle.doc_model.specs.RowLists.{AllBelow}
 use Rattle.xpath_eval.proofs.Covering as covering
 use Rattle.xpath_eval.proofs.contexts.fewer.Goals as goal
 

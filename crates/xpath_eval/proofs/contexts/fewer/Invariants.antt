@@ -1,6 +1,6 @@
 use Rattle.std.proofs.Common.{length, take}
-use Rattle.xpath_eval.specs.Contexts.{Covers}
-use Rattle.xpath_eval.specs.Rows.{AllBelow}
+use Rattle.xpath_eval.specs.inner.Contexts.{Covers}
+use Rattle.doc_model.specs.RowLists.{AllBelow}
 use Rattle.xpath_eval.proofs.contexts.fewer.Given as goal
 
 abbrev pub invariant-loop-x : goal.invariant-loop-x

@@ -1,5 +1,5 @@
 use Rattle.std.proofs.Common.{subst}
-use Rattle.xpath_eval.specs.Tests.{AreTests}
+use Rattle.xpath_eval.specs.inner.Tests.{AreTests}
 use Rattle.xpath_eval.proofs.deep_steps.is_tested_child.Goals as goal
 
 pub returns-then-is_child : goal.returns-then-is_child

@@ -1,5 +1,5 @@
 use Rattle.std.proofs.Common.{sym, ◌∙◌, subst, ◌≤◌, length}
-use Rattle.xpath_eval.specs.Rows.{AllBelow}
+use Rattle.doc_model.specs.RowLists.{AllBelow}
 use Rattle.xpath_eval.proofs.Lists.{run_below, run_few}
 use Rattle.xpath_eval.proofs.forms.rows_of_nodes.Goals as goal
 

@@ -2,8 +2,8 @@ use Rattle.std.proofs.Common.{◌∙◌, ap, sym, subst, length, map}
 use Rattle.xpath_parser.specs.Denote as spec
 use Rattle.xpath_parser.specs.declared.expression.Step.{out-Step}
 use Rattle.xpath_parser.proofs.Equations as eqs
-use Rattle.xpath_eval.specs.Rows.{AllBelow}
-use Rattle.xpath_eval.specs.Steps.{BeginsWithOne}
+use Rattle.doc_model.specs.RowLists.{AllBelow}
+use Rattle.xpath_eval.specs.inner.Steps.{BeginsWithOne}
 use Rattle.xpath_eval.proofs.Counting as counting
 use Rattle.xpath_eval.proofs.Kept.{axis_below}
 use Rattle.xpath_eval.proofs.step_rows.step_rows.Goals as goal

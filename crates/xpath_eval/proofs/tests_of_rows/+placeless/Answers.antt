@@ -1,7 +1,7 @@
 use Rattle.std.proofs.Common.{sym, ◌∙◌, subst}
 use Rattle.std.proofs.lemmas.List.{take_all}
 use Rattle.xpath_parser.specs.declared.expression.Operand.{Operand, out-Operand}
-use Rattle.xpath_eval.specs.Tests.{IsPlaceless, IsPlacelessStart, EachPlaceless, EachOperandPlaceless}
+use Rattle.xpath_eval.specs.inner.Tests.{IsPlaceless, IsPlacelessStart, EachPlaceless, EachOperandPlaceless}
 use Rattle.xpath_eval.proofs.Lists.{all_more}
 use Rattle.xpath_eval.proofs.Placeless as placeless
 use Rattle.xpath_eval.proofs.tests_of_rows.+placeless.Goals as goal

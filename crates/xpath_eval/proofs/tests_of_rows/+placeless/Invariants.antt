@@ -1,5 +1,5 @@
 use Rattle.std.proofs.Common.{take}
-use Rattle.xpath_eval.specs.Tests.{EachPlaceless, EachOperandPlaceless}
+use Rattle.xpath_eval.specs.inner.Tests.{EachPlaceless, EachOperandPlaceless}
 use Rattle.xpath_eval.proofs.tests_of_rows.+placeless.Given as goal
 
 abbrev pub invariant-are_placeless-loop-e : goal.invariant-are_placeless-loop-e

@@ -1,6 +1,6 @@
 use Rattle.std.proofs.Common.{subst}
 use Rattle.std.proofs.lemmas.List.{take_all}
-use Rattle.xpath_eval.specs.Tests.{IsTest, AreTests}
+use Rattle.xpath_eval.specs.inner.Tests.{IsTest, AreTests}
 use Rattle.xpath_eval.proofs.Lists.{all_more}
 use Rattle.xpath_eval.proofs.tests_of_rows.are_tests.Goals as goal
 

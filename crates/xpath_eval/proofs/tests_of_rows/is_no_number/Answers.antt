@@ -1,5 +1,5 @@
 use Rattle.std.proofs.Common.{sym, ◌∙◌, subst}
-use Rattle.xpath_eval.specs.Tests.{IsNoNumber, EndsCompared}
+use Rattle.xpath_eval.specs.inner.Tests.{IsNoNumber, EndsCompared}
 use Rattle.xpath_eval.proofs.Covering.{was_false}
 use Rattle.xpath_eval.proofs.Placeless as placeless
 use Rattle.xpath_eval.proofs.tests_of_rows.is_no_number.Goals as goal

@@ -6,7 +6,7 @@ use Rattle.xpath_parser.specs.declared.expression.Expr.{Expr}
 use Rattle.xpath_parser.specs.declared.expression.Expr.TheVariants.{Path, Number}
 use Rattle.xpath_parser.specs.declared.expression.Start.TheVariants.{Here}
 use Rattle.xpath_parser.specs.declared.expression.Step.{Step, out-Step}
-use Rattle.xpath_eval.specs.Tests.{AreTests}
+use Rattle.xpath_eval.specs.inner.Tests.{AreTests}
 
 -- the expressions are one path of one step from the context row, without predicates
 pub record IsLoneStep (es : List Expr) (s : Step) : Type 0 where

@@ -1,0 +1,5 @@
+-- What private functions and proofs say. No contract of a public call cites it.
+pub mod Contexts
+pub mod Places
+pub mod Steps
+pub mod Tests
