@@ -1,5 +1,5 @@
 -- Steps and an end, read from the left.
-use Rattle.std.proofs.Common.{◌≡◌, ℕ, suc, ◌+◌, ◌-◌, ◌<◌, ◌≤◌, Bool, true, false, List, [], ◌∷◌, ◌++◌, length, take, get_or, refl, sym, ◌∙◌, ap, subst, arith, map, append_assoc, length-append, length-take}
+use Rattle.std.proofs.Common.{◌≡◌, ℕ, suc, ◌+◌, ◌-◌, ◌<◌, ◌≤◌, Bool, true, false, List, [], ◌∷◌, ◌++◌, length, take, refl, sym, ◌∙◌, ap, arith, map, append_assoc, length-append, length-take}
 use Rattle.std.specs.Prelude.{Option, Some, None, option_map, option_and_then, nat_lt, if◌then◌else◌}
 use Rattle.std.specs.List.{list_all, slice_index_or}
 use Rattle.std.proofs.lemmas.Bool.Decides.{nat_tests}

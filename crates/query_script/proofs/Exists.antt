@@ -1,5 +1,5 @@
 -- Each text reads as fields or is refused as a whole.
-use Rattle.std.proofs.Common.{◌≡◌, ℕ, ◌<◌, ◌≤◌, Bool, true, false, List, [], ◌∷◌, length, refl, sym, arith, inl, inr, ◌⊎◌}
+use Rattle.std.proofs.Common.{◌≡◌, ℕ, ◌<◌, ◌≤◌, Bool, true, false, List, [], ◌∷◌, length, refl, sym, inl, inr, ◌⊎◌}
 use Rattle.std.specs.Prelude.{Option, Some, None}
 use Rattle.std.specs.Str.{chars}
 use Rattle.std.proofs.lemmas.Bool.{cases_lt}
@@ -12,8 +12,7 @@ use Rattle.css_selectors.specs.declared.selector.SelectorList.{SelectorList}
 use Rattle.css_parser.specs.Selecting.{Accepts, IsFault}
 use Rattle.css_parser.proofs.Existence.{each_list_or_fault}
 use Rattle.css_printed.specs.Printed.{printed}
-use Rattle.xpath_parser.specs.Laws.{IsRead, IsRefused as IsXPathRefusal}
-use Rattle.xpath_parser.specs.Reading.{most_bytes as most_xpath}
+use Rattle.xpath_lexer.specs.Places.{most_xpath}
 use Rattle.xpath_parser.specs.Shapes.{is_nodes, shape_of}
 use Rattle.xpath_parser.proofs.Refused.{read_or_refused}
 use Rattle.query_script.specs.declared.script.Chain.{Chain}
@@ -30,7 +29,7 @@ use Rattle.query_script.specs.Cuts.{fields_of}
 use Rattle.query_script.specs.Names.{is_named, name_of, behind_colon}
 use Rattle.query_script.specs.Steps.{Written}
 use Rattle.query_script.specs.Queries.{IsKept, AreKept, IsCssFault, IsRefused, IsFirstRefusal}
-use Rattle.query_script.specs.Fields.{IsChain, IsField, AreFields, IsScript, IsScriptFault, most_bytes, most_fields}
+use Rattle.query_script.specs.Fields.{IsChain, IsField, AreFields, IsScript, IsScriptFault, most_script, most_fields}
 use Rattle.query_script.specs.Reader.{read_chain}
 use Rattle.query_script.proofs.FieldLemmas.{chain_none, chain_some}
 
@@ -114,12 +113,12 @@ some_fields d (p ∷ pieces) =
     (first.0 ∷ rest.0, (first.1, rest.1))
 
 pub some_reading : (d : Dialect) (text : List ℕ) → ((fields : List Field) × IsScript d text fields) ⊎ ((f : ScriptFault) × IsScriptFault text f)
-some_reading d text = by_bytes (cases_lt most_bytes (length text))
+some_reading d text = by_bytes (cases_lt most_script (length text))
   where
-    by_count : length text ≤ most_bytes → (most_fields < length (fields_of text)) ⊎ (length (fields_of text) ≤ most_fields) → ((fields : List Field) × IsScript d text fields) ⊎ ((f : ScriptFault) × IsScriptFault text f)
+    by_count : length text ≤ most_script → (most_fields < length (fields_of text)) ⊎ (length (fields_of text) ≤ most_fields) → ((fields : List Field) × IsScript d text fields) ⊎ ((f : ScriptFault) × IsScriptFault text f)
     by_count short (inl many) = inr (script.Fields, record { short = short; many = many })
     by_count short (inr few) = let all = some_fields d (fields_of text) in inl (all.0, record { short = short; few = few; are = all.1 })
 
-    by_bytes : (most_bytes < length text) ⊎ (length text ≤ most_bytes) → ((fields : List Field) × IsScript d text fields) ⊎ ((f : ScriptFault) × IsScriptFault text f)
+    by_bytes : (most_script < length text) ⊎ (length text ≤ most_script) → ((fields : List Field) × IsScript d text fields) ⊎ ((f : ScriptFault) × IsScriptFault text f)
     by_bytes (inl long) = inr (script.Long, long)
     by_bytes (inr short) = by_count short (cases_lt most_fields (length (fields_of text)))

@@ -1,23 +1,22 @@
 -- Fields, one after the other.
-use Rattle.std.proofs.Common.{◌≡◌, ℕ, ◌+◌, ◌<◌, Bool, true, false, List, [], ◌∷◌, ◌++◌, length, take, get_or, refl, sym, ◌∙◌, ap, subst, map, inl, inr, ◌⊎◌}
-use Rattle.std.specs.Prelude.{Option, Some, None}
+use Rattle.std.proofs.Common.{◌≡◌, ℕ, ◌+◌, ◌<◌, Bool, true, false, List, [], ◌∷◌, ◌++◌, length, take, get_or, refl, sym, ◌∙◌, ap, subst, map, inl, inr}
+use Rattle.std.specs.Prelude.{Some, None}
 use Rattle.std.specs.List.{AllByRecursion}
 use Rattle.std.specs.Str.{chars}
 use Rattle.std.proofs.lemmas.List.{take_more, map-append}
 use Rattle.css_selectors.specs.declared.selector.Dialect.{Dialect}
 use Rattle.query_script.specs.declared.script.Chain.{Chain}
 use Rattle.query_script.specs.declared.script.Chain.TheVariants as chain
-use Rattle.query_script.specs.declared.script.ChainStep.{ChainStep}
 use Rattle.query_script.specs.declared.script.Field.{Field}
 use Rattle.query_script.specs.declared.script.Reason.{Reason}
 use Rattle.query_script.specs.declared.script.Reason.TheVariants as reason
 use Rattle.query_script.specs.declared.script.Take.{Take}
 use Rattle.query_script.specs.declared.steps.Kind.{Kind}
 use Rattle.query_script.specs.declared.steps.Kind.TheVariants as kind
-use Rattle.query_script.specs.Names.{is_named, name_of, label, behind_colon}
+use Rattle.query_script.specs.Names.{is_named, name_of, label}
 use Rattle.query_script.specs.Steps.{Written, IsChainText}
 use Rattle.query_script.specs.Queries.{IsRefused, IsFirstRefusal}
-use Rattle.query_script.specs.Fields.{IsNoChain, IsRefusedChain, IsAccepted, IsChain, IsField, AreFields}
+use Rattle.query_script.specs.Fields.{IsRefusedChain, IsChain, IsField, AreFields}
 use Rattle.query_script.specs.Ordered.{IsOrdered}
 use Rattle.query_script.specs.Reader.{read_chain, AreFound}
 use Rattle.query_script.proofs.ChainLemmas.{chain_sound, no_chain}

@@ -1,16 +1,7 @@
 -- Tests of all elements of a list, one after the other.
-use Rattle.std.proofs.Common.{◌≡◌, ℕ, zero, suc, ◌+◌, ◌<◌, List, [], ◌∷◌, length, take, get_or, arith, refl}
+use Rattle.std.proofs.Common.{◌≡◌, ℕ, zero, suc, ◌<◌, List, [], ◌∷◌, length, take, get_or, arith, refl}
 use Rattle.std.specs.Prelude.{Bool, true, false, ◌&&◌}
 use Rattle.std.specs.List.{list_all}
-
-pub not_all : (p : ℕ → Bool) (word : List ℕ) (i : ℕ) → i < length word → p (get_or word i 0) ≡ false → list_all p word ≡ false
-not_all p [] i w e = absurd (omega arith)
-not_all p (x ∷ word) zero w e = rw e refl
-not_all p (x ∷ word) (suc i) w e = and_false (p x) (list_all p word) (not_all p word i (omega arith) e)
-  where
-    and_false : (a b : Bool) → b ≡ false → (a && b) ≡ false
-    and_false true b q = q
-    and_false false b q = refl
 
 pub all_more : (p : ℕ → Bool) (word : List ℕ) (i : ℕ) → i < length word → list_all p (take i word) ≡ true → p (get_or word i 0) ≡ true → list_all p (take (suc i) word) ≡ true
 all_more p [] i w h e = absurd (omega arith)

@@ -1,31 +1,25 @@
 -- Steps that are kept or refused, one after the other.
-use Rattle.std.proofs.Common.{◌≡◌, ℕ, ◌+◌, ◌<◌, ◌≤◌, Bool, true, false, List, [], ◌∷◌, ◌++◌, length, drop, get_or, map, refl, sym, ◌∙◌, ap, subst, append_assoc, inl, inr, ◌⊎◌}
+use Rattle.std.proofs.Common.{◌≡◌, ℕ, ◌+◌, ◌<◌, ◌≤◌, Bool, true, List, [], ◌∷◌, ◌++◌, length, drop, get_or, map, refl, sym, ◌∙◌, ap, subst, append_assoc, inl, inr}
 use Rattle.std.specs.Prelude.{encode_utf8_all}
 use Rattle.std.specs.Str.{chars, IsUtf8}
 use Rattle.std.proofs.lemmas.List.{append-nil, drop_all, drop_more}
-use Rattle.text_base.specs.declared.reasons.SelectorFault.{SelectorFault}
-use Rattle.text_base.specs.declared.reasons.SelectorFault.TheVariants as fault
 use Rattle.text_base.proofs.Text.{encode-chars}
 use Rattle.css_selectors.specs.declared.selector.Dialect.{Dialect}
 use Rattle.css_selectors.specs.declared.selector.SelectorList.{SelectorList}
-use Rattle.css_parser.specs.Selecting.{Accepts, IsUnlisted}
+use Rattle.css_parser.specs.Selecting.{Accepts}
 use Rattle.css_printed.specs.Printed.{printed}
 use Rattle.css_printed.specs.Promise.{KeepsMeaning}
+use Rattle.xpath_lexer.specs.Places.{most_xpath}
 use Rattle.xpath_parser.specs.declared.expression.Expr.{Expr}
-use Rattle.xpath_parser.specs.Reading.{ReadsAs, most_bytes}
+use Rattle.xpath_parser.specs.Reading.{ReadsAs}
 use Rattle.xpath_parser.specs.Shapes.{is_nodes, shape_of}
-use Rattle.query_script.specs.declared.queries.Found.{Found}
 use Rattle.query_script.specs.declared.queries.Found.TheVariants as found
-use Rattle.query_script.specs.declared.script.Chain.{Chain}
-use Rattle.query_script.specs.declared.script.Chain.TheVariants as chain
 use Rattle.query_script.specs.declared.script.ChainStep.{ChainStep}
 use Rattle.query_script.specs.declared.script.ChainStep.TheVariants as step
 use Rattle.query_script.specs.declared.script.Reason.{Reason}
-use Rattle.query_script.specs.declared.script.Reason.TheVariants as reason
-use Rattle.query_script.specs.declared.steps.Kind.{Kind}
 use Rattle.query_script.specs.declared.steps.Kind.TheVariants as kind
 use Rattle.query_script.specs.Steps.{Written}
-use Rattle.query_script.specs.Queries.{IsKept, AreKept, IsRefused, IsFirstRefusal, IsCssFault}
+use Rattle.query_script.specs.Queries.{AreKept, IsFirstRefusal}
 use Rattle.query_script.specs.Ordered.{AreOrdered}
 use Rattle.query_script.specs.Reader.{IsInOrder, IsFound}
 
@@ -34,10 +28,10 @@ use Rattle.query_script.specs.Reader.{IsInOrder, IsFound}
 reads_back : (text : List ℕ) (x : Expr) → IsUtf8 text → ReadsAs text x → ReadsAs (encode_utf8_all (chars text)) x
 reads_back text x utf8 h = let P : List ℕ → Type 0 = λ t. ReadsAs t x in subst P (sym (encode-chars text utf8)) h
 
-pub css_kept : (d : Dialect) (text xpath : List ℕ) (list : SelectorList) → Accepts text list → xpath ≡ printed d list → KeepsMeaning d list xpath → length xpath ≤ most_bytes → IsUtf8 xpath →
+pub css_kept : (d : Dialect) (text xpath : List ℕ) (list : SelectorList) → Accepts text list → xpath ≡ printed d list → KeepsMeaning d list xpath → length xpath ≤ most_xpath → IsUtf8 xpath →
     IsFound d true kind.Css text (found.Kept (step.Query (chars xpath)) true)
 css_kept d text xpath list h e m short utf8 = (
-  record { list = list; accepted = h; short = (let P : List ℕ → Type 0 = λ t. length t ≤ most_bytes in subst P e short); is = ap (λ t. step.Query (chars t)) e; shape = refl },
+  record { list = list; accepted = h; short = (let P : List ℕ → Type 0 = λ t. length t ≤ most_xpath in subst P e short); is = ap (λ t. step.Query (chars t)) e; shape = refl },
   (refl, (m.expression, (reads_back xpath m.expression utf8 m.reads, sym (ap is_nodes m.shape)))),
 )
 

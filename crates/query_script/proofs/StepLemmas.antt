@@ -1,5 +1,5 @@
 -- Steps, read from the left.
-use Rattle.std.proofs.Common.{◌≡◌, ℕ, ◌+◌, ◌-◌, ◌<◌, ◌≤◌, Bool, true, false, List, [], ◌∷◌, ◌++◌, length, take, drop, get_or, refl, sym, ◌∙◌, ap, subst, arith, map, codes, length-drop}
+use Rattle.std.proofs.Common.{◌≡◌, ℕ, ◌+◌, ◌-◌, ◌<◌, Bool, true, false, List, [], ◌∷◌, ◌++◌, length, take, get_or, refl, sym, ◌∙◌, ap, subst, arith, map, codes, length-drop}
 use Rattle.std.specs.Prelude.{◌==◌, ◌&&◌, Option, Some, None, option_map, option_and_then, if◌then◌else◌}
 use Rattle.std.specs.List.{list_all, before_first, after_first, position_or_len, slice_range}
 use Rattle.std.specs.Str.{bytes_eq, IsUtf8}
@@ -14,7 +14,7 @@ use Rattle.query_script.specs.declared.script.Take.TheVariants as end
 use Rattle.query_script.specs.declared.steps.Kind.{Kind}
 use Rattle.query_script.specs.declared.steps.Kind.TheVariants as kind
 use Rattle.query_script.specs.Cuts.{is_quote}
-use Rattle.query_script.specs.Steps.{Written, word_of, doubled, in_brackets, step_text, end_text, is_quoted}
+use Rattle.query_script.specs.Steps.{Written, word_of, in_brackets, step_text, end_text, is_quoted}
 use Rattle.query_script.specs.Reader.{is_open, unquoted, written, read_string, read_kind, read_step, read_steps, read_end}
 use Rattle.query_script.proofs.StringLemmas.{quoted_rest, complete, sound}
 

@@ -1,11 +1,12 @@
 -- Texts without the blanks at their ends.
-use Rattle.std.proofs.Common.{◌≡◌, ℕ, zero, suc, ◌+◌, ◌-◌, ◌<◌, ◌≤◌, ◌++◌, List, [], ◌∷◌, length, take, drop, get_or, refl, sym, ◌∙◌, ap, arith, add-one}
+use Rattle.std.proofs.Common.{◌≡◌, ℕ, zero, suc, ◌-◌, ◌<◌, List, [], ◌∷◌, length, take, drop, get_or, refl, ◌∙◌, ap, arith}
 use Rattle.std.proofs.lemmas.Bool.Decides.{nat_tests}
 use Rattle.std.specs.Prelude.{Bool, true, false, ◌&&◌, if◌then◌else◌}
 use Rattle.std.specs.List.{list_all, slice_range}
 use Rattle.std.specs.Str.{IsUtf8}
 use Rattle.text_base.specs.Text.{IsPlace}
 use Rattle.text_base.proofs.Boundaries.{past_ascii}
+use Rattle.std.proofs.lemmas.List.Folds.{list_all_at}
 use Rattle.query_script.specs.Cuts.{is_blank, skip_front, skip_back}
 
 pub front_one : (text : List ℕ) → 0 < length text → is_blank (get_or text 0 0) ≡ true → skip_front (drop 1 text) ≡ skip_front text
@@ -39,15 +40,6 @@ back_one_at (c ∷ text) (suc k) e b = rw (all_last text k (omega arith) b) (ap 
 pub back_one : (text : List ℕ) → 0 < length text → is_blank (get_or text (length text - 1) 0) ≡ true → skip_back (take (length text - 1) text) ≡ skip_back text
 back_one text w b = back_one_at text (length text - 1) (omega arith) b
 
-not_all_at : (text : List ℕ) (k : ℕ) → k < length text → is_blank (get_or text k 0) ≡ false → list_all is_blank text ≡ false
-not_all_at [] k w b = absurd (omega arith)
-not_all_at (c ∷ text) zero w b = rw b refl
-not_all_at (c ∷ text) (suc k) w b = and_false (is_blank c) (list_all is_blank text) (not_all_at text k (omega arith) b)
-  where
-    and_false : (a x : Bool) → x ≡ false → (a && x) ≡ false
-    and_false true x q = q
-    and_false false x q = refl
-
 back_stop_at : (text : List ℕ) (k : ℕ) → length text ≡ suc k → is_blank (get_or text k 0) ≡ false → text ≡ skip_back text
 back_stop_at [] k e b = refl
 back_stop_at (c ∷ text) zero e b = one text (omega arith) (rw b refl)
@@ -55,7 +47,7 @@ back_stop_at (c ∷ text) zero e b = one text (omega arith) (rw b refl)
     one : (t : List ℕ) → length t ≡ 0 → (is_blank c && list_all is_blank t) ≡ false → c ∷ t ≡ (if is_blank c && list_all is_blank t then [] else c ∷ skip_back t)
     one [] q r = rw r refl
     one (d ∷ t) q r = absurd (omega arith)
-back_stop_at (c ∷ text) (suc k) e b = more (is_blank c && list_all is_blank text) (and_false (is_blank c) (list_all is_blank text) (not_all_at text k (omega arith) b)) (back_stop_at text k (omega arith) b)
+back_stop_at (c ∷ text) (suc k) e b = more (is_blank c && list_all is_blank text) (and_false (is_blank c) (list_all is_blank text) (list_all_at is_blank text k 0 (omega arith) b)) (back_stop_at text k (omega arith) b)
   where
     and_false : (a x : Bool) → x ≡ false → (a && x) ≡ false
     and_false true x q = q

@@ -1,6 +1,5 @@
 -- A script reads as one list of fields at most.
-use Rattle.std.proofs.Common.{◌≡◌, ℕ, ◌<◌, ◌≤◌, Bool, true, false, List, [], ◌∷◌, length, refl, sym, ◌∙◌, ap, subst, arith, inl, inr, ◌⊎◌}
-use Rattle.std.specs.Prelude.{Option, Some, None}
+use Rattle.std.proofs.Common.{◌≡◌, ℕ, Bool, true, false, List, [], ◌∷◌, length, refl, sym, ◌∙◌, ap, subst, arith, inl, inr, ◌⊎◌}
 use Rattle.std.specs.Str.{chars}
 use Rattle.text_base.specs.declared.reasons.ScriptFault.{ScriptFault}
 use Rattle.text_base.specs.declared.reasons.ScriptFault.TheVariants as script
@@ -28,7 +27,7 @@ use Rattle.query_script.specs.declared.script.Reason.TheVariants as reason
 use Rattle.query_script.specs.declared.script.Take.{Take}
 use Rattle.query_script.specs.declared.steps.Kind.{Kind}
 use Rattle.query_script.specs.declared.steps.Kind.TheVariants as kind
-use Rattle.query_script.specs.Names.{is_named, behind_colon}
+use Rattle.query_script.specs.Names.{behind_colon}
 use Rattle.query_script.specs.Steps.{Written, IsChainText}
 use Rattle.query_script.specs.Queries.{IsCssStep, IsXPathStep, IsKept, AreKept, IsXPathLong, IsCssFault, IsCssRefused, IsXPathRefused, IsRefused, IsFirstRefusal}
 use Rattle.query_script.specs.Fields.{IsNoChain, IsRefusedChain, IsAccepted, IsChain, IsUnnamedField, IsNamedField, IsField, AreFields, IsScript, IsScriptFault}

@@ -77,8 +77,8 @@ AreFields d (p ∷ pieces) [] = ⊥
 AreFields d (p ∷ pieces) (f ∷ fields) = IsField d p f × AreFields d pieces fields
 
 -- the most bytes of a script
-abbrev pub most_bytes : ℕ
-most_bytes = 65536
+abbrev pub most_script : ℕ
+most_script = 65536
 
 -- the most fields of a script
 abbrev pub most_fields : ℕ
@@ -86,18 +86,18 @@ most_fields = 32
 
 -- The script, as bytes, reads as these fields: it is not too long, it has not too many fields, and these are they.
 pub record IsScript (d : Dialect) (text : List ℕ) (fields : List Field) : Type 0 where
-  pub short : length text ≤ most_bytes
+  pub short : length text ≤ most_script
   pub few : length (fields_of text) ≤ most_fields
   pub are : AreFields d (fields_of text) fields
 
 -- not too long, and more fields than a script may have
 pub record HasManyFields (text : List ℕ) : Type 0 where
-  pub short : length text ≤ most_bytes
+  pub short : length text ≤ most_script
   pub many : most_fields < length (fields_of text)
 
 -- Why the script is refused as a whole. Memory is no reason of the text.
 abbrev pub IsScriptFault : List ℕ → ScriptFault → Type 0
-IsScriptFault text script.Long = most_bytes < length text
+IsScriptFault text script.Long = most_script < length text
 IsScriptFault text script.Fields = HasManyFields text
 IsScriptFault text script.Memory = ⊥
 

@@ -7,9 +7,10 @@ use Rattle.css_selectors.specs.declared.selector.Dialect.{Dialect}
 use Rattle.css_selectors.specs.declared.selector.SelectorList.{SelectorList}
 use Rattle.css_parser.specs.Selecting.{Accepts, IsFault}
 use Rattle.css_printed.specs.Printed.{printed}
+use Rattle.xpath_lexer.specs.Places.{most_xpath}
 use Rattle.xpath_parser.specs.declared.expression.Expr.{Expr}
 use Rattle.xpath_parser.specs.Faults.{IsXPathFault}
-use Rattle.xpath_parser.specs.Reading.{ReadsAs, most_bytes}
+use Rattle.xpath_parser.specs.Reading.{ReadsAs}
 use Rattle.xpath_parser.specs.Shapes.{is_nodes, shape_of}
 use Rattle.query_script.specs.declared.script.ChainStep.{ChainStep}
 use Rattle.query_script.specs.declared.script.ChainStep.TheVariants as step
@@ -25,7 +26,7 @@ use Rattle.query_script.specs.Steps.{Written}
 pub record IsCssStep (d : Dialect) (text : List ℕ) (kept : ChainStep) (nodes : Bool) : Type 0 where
   pub list : SelectorList
   pub accepted : Accepts text list
-  pub short : length (printed d list) ≤ most_bytes
+  pub short : length (printed d list) ≤ most_xpath
   pub is : kept ≡ step.Query (chars (printed d list))
   pub shape : nodes ≡ true
 
@@ -64,7 +65,7 @@ AreKept d nodes (w ∷ steps) (s ∷ kept) = (after : Bool) × (IsKept d nodes w
 pub record IsXPathLong (d : Dialect) (text : List ℕ) : Type 0 where
   pub list : SelectorList
   pub accepted : Accepts text list
-  pub long : most_bytes < length (printed d list)
+  pub long : most_xpath < length (printed d list)
 
 -- why the text of a css step is refused: it is no list of selectors, or the XPath of its list is too long
 abbrev pub IsCssFault : Dialect → List ℕ → SelectorFault → Type 0

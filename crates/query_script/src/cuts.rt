@@ -107,7 +107,7 @@ pub(crate) fn trimmed(text: &str) -> &str
     skip_back(skip_front(text))
 }
 
-#[tactic(auto, using(crate::proofs::ListLemmas::not_all, crate::proofs::ListLemmas::all_more))]
+#[tactic(auto, using(std::proofs::lemmas::List::Folds::list_all_at, crate::proofs::ListLemmas::all_more))]
 fn all_blank(text: &str) -> bool
     ensures { result ≡ list_all is_blank text.now }
 {

@@ -31,7 +31,7 @@ fn is_name_byte(byte: u8) -> bool
     is_name_start(byte) || (byte >= b'0' && byte <= b'9')
 }
 
-#[tactic(auto, using(crate::proofs::ListLemmas::not_all, crate::proofs::ListLemmas::all_more))]
+#[tactic(auto, using(std::proofs::lemmas::List::Folds::list_all_at, crate::proofs::ListLemmas::all_more))]
 fn all_name(text: &[u8]) -> bool
     ensures { result ≡ list_all is_name_byte text.now }
 {

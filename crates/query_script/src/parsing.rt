@@ -11,7 +11,7 @@ use std::alloc::Global;
 use text_base::{ScriptFault, Seq};
 
 /// The most bytes of a script.
-const MOST_BYTES: usize = 65_536;
+const MOST_SCRIPT: usize = 65_536;
 
 /// The most fields of a script.
 const MOST_FIELDS: usize = 32;
@@ -27,7 +27,7 @@ pub fn parse_script(alloc: Global, dialect: Dialect, text: &str) -> Result<Scrip
     ensures ordered { IfOk result (λ script. AllByRecursion IsOrdered script.fields) }
     ensures fault { IfErr result (IsUnread text.now) }
 {
-    if text.len() > MOST_BYTES {
+    if text.len() > MOST_SCRIPT {
         return Err(ScriptFault::Long);
     }
     let Ok(pieces) = field_pieces(alloc, text) else {

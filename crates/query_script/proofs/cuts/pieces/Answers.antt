@@ -1,4 +1,4 @@
-use Rattle.std.proofs.Common.{arith, map, sym, refl, ◌∙◌, ap}
+use Rattle.std.proofs.Common.{arith, sym, ◌∙◌, ap}
 use Rattle.std.proofs.lemmas.List.{map-append}
 use Rattle.text_base.proofs.Boundaries.{at_start, past_ascii}
 use Rattle.query_script.specs.Reader.{cuts_of}
