@@ -7,7 +7,7 @@ use Rattle.std.proofs.lemmas.List.{append-nil, length-map}
 use Rattle.query_script.specs.declared.script.Take.{Take}
 use Rattle.query_script.specs.Cuts.{pieces, is_point, trimmed}
 use Rattle.query_script.specs.Steps.{Written, step_text, end_text, is_quoted, IsChainText}
-use Rattle.query_script.specs.Reader.{with_end, read_step, read_steps, read_end, read_parts, read_chain}
+use Rattle.query_script.specs.inner.Reader.{with_end, read_step, read_steps, read_end, read_parts, read_chain}
 use Rattle.query_script.proofs.StepLemmas.{steps_complete, end_complete, steps_sound, end_sound}
 
 abbrev Texts : Type 0

@@ -7,7 +7,7 @@ use Rattle.std.proofs.lemmas.List.{append-nil, take_more}
 use Rattle.query_script.specs.declared.cuts.Cut.{Cut}
 use Rattle.query_script.specs.declared.cuts.Cut.TheVariants as cut
 use Rattle.query_script.specs.Cuts.{pieces, quote_after, onto_first}
-use Rattle.query_script.specs.Reader.{cuts_of}
+use Rattle.query_script.specs.inner.Reader.{cuts_of}
 
 -- bytes at the front of the first piece
 abbrev pub onto_all : List ℕ → List (List ℕ) → List (List ℕ)

@@ -30,7 +30,7 @@ use Rattle.query_script.specs.Names.{is_named, name_of, behind_colon}
 use Rattle.query_script.specs.Steps.{Written}
 use Rattle.query_script.specs.Queries.{IsKept, AreKept, IsCssFault, IsRefused, IsFirstRefusal}
 use Rattle.query_script.specs.Fields.{IsChain, IsField, AreFields, IsScript, IsScriptFault, most_script, most_fields}
-use Rattle.query_script.specs.Reader.{read_chain}
+use Rattle.query_script.specs.inner.Reader.{read_chain}
 use Rattle.query_script.proofs.FieldLemmas.{chain_none, chain_some}
 
 -- ---- one step

@@ -18,7 +18,7 @@ use Rattle.query_script.specs.Steps.{Written, IsChainText}
 use Rattle.query_script.specs.Queries.{IsRefused, IsFirstRefusal}
 use Rattle.query_script.specs.Fields.{IsRefusedChain, IsChain, IsField, AreFields}
 use Rattle.query_script.specs.Ordered.{IsOrdered}
-use Rattle.query_script.specs.Reader.{read_chain, AreFound}
+use Rattle.query_script.specs.inner.Reader.{read_chain, AreFound}
 use Rattle.query_script.proofs.ChainLemmas.{chain_sound, no_chain}
 
 -- ---- one chain

@@ -21,7 +21,7 @@ use Rattle.query_script.specs.declared.steps.Kind.TheVariants as kind
 use Rattle.query_script.specs.Steps.{Written}
 use Rattle.query_script.specs.Queries.{AreKept, IsFirstRefusal}
 use Rattle.query_script.specs.Ordered.{AreOrdered}
-use Rattle.query_script.specs.Reader.{IsInOrder, IsFound}
+use Rattle.query_script.specs.inner.Reader.{IsInOrder, IsFound}
 
 -- ---- one step
 

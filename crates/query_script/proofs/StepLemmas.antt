@@ -15,7 +15,7 @@ use Rattle.query_script.specs.declared.steps.Kind.{Kind}
 use Rattle.query_script.specs.declared.steps.Kind.TheVariants as kind
 use Rattle.query_script.specs.Cuts.{is_quote}
 use Rattle.query_script.specs.Steps.{Written, word_of, in_brackets, step_text, end_text, is_quoted}
-use Rattle.query_script.specs.Reader.{is_open, unquoted, written, read_string, read_kind, read_step, read_steps, read_end}
+use Rattle.query_script.specs.inner.Reader.{is_open, unquoted, written, read_string, read_kind, read_step, read_steps, read_end}
 use Rattle.query_script.proofs.StringLemmas.{quoted_rest, complete, sound}
 
 pub no_bracket : (q : ℕ) → is_quote q ≡ true → (41 == q) ≡ false

@@ -8,7 +8,7 @@ use Rattle.text_base.specs.Strings.{is_empty}
 use Rattle.text_base.specs.Text.{run_end, is_not_byte}
 use Rattle.text_base.proofs.Runs.{run_end_stops}
 use Rattle.query_script.specs.Steps.{doubled}
-use Rattle.query_script.specs.Reader.{unquoted}
+use Rattle.query_script.specs.inner.Reader.{unquoted}
 
 -- ---- what is read is what was written
 

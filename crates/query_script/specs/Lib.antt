@@ -4,6 +4,6 @@ pub mod Laws
 pub mod Names
 pub mod Ordered
 pub mod Queries
-pub mod Reader
 pub mod Steps
 pub mod Words
+pub mod inner

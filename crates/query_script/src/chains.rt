@@ -1,7 +1,7 @@
 //! The steps and the end of a field.
 ghost use Rattle.std.specs.Prelude.{◌≡◌, map, option_map, IfOk};
 ghost use Rattle.query_script.specs.Cuts.{trimmed};
-ghost use Rattle.query_script.specs.Reader.{read_end, read_steps, read_chain, written_of, chain_of};
+ghost use Rattle.query_script.specs.inner.Reader.{read_end, read_steps, read_chain, written_of, chain_of};
 
 use crate::cuts::{Cut, pieces, trimmed};
 use crate::script::Take;

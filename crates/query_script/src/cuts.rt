@@ -2,7 +2,7 @@
 ghost use Rattle.std.specs.Prelude.{◌==◌, ◌&&◌, ◌≡◌, map, filter, IfOk};
 ghost use Rattle.std.specs.List.{list_all};
 ghost use Rattle.query_script.specs.Cuts.{quote_after, pieces, is_blank, skip_front, skip_back, trimmed, is_written, fields_of};
-ghost use Rattle.query_script.specs.Reader.{cuts_of};
+ghost use Rattle.query_script.specs.inner.Reader.{cuts_of};
 
 use std::alloc::Global;
 use text_base::{NoMemory, byte_at, part};

@@ -2,7 +2,7 @@
 ghost use Rattle.std.specs.Prelude.{◌≡◌, true, map, string_bytes, IfOk};
 ghost use Rattle.query_script.specs.Ordered.{IsOrderedChain};
 ghost use Rattle.xpath_parser.specs.Shapes.{is_nodes};
-ghost use Rattle.query_script.specs.Reader.{IsFound, AreFound, written_of};
+ghost use Rattle.query_script.specs.inner.Reader.{IsFound, AreFound, written_of};
 
 use crate::script::{Chain, ChainStep, Reason, Take};
 use crate::steps::{Kind, StepText};

@@ -1,6 +1,6 @@
 use Rattle.std.proofs.Common.{drop, map}
 use Rattle.query_script.specs.Cuts.{trimmed}
-use Rattle.query_script.specs.Reader.{written_of}
+use Rattle.query_script.specs.inner.Reader.{written_of}
 use Rattle.query_script.proofs.ChainLemmas.{SoFar}
 use Rattle.query_script.proofs.chains.read_steps.Given as goal
 

@@ -1,7 +1,7 @@
 use Rattle.std.proofs.Common.{arith, sym, ◌∙◌, ap}
 use Rattle.std.proofs.lemmas.List.{map-append}
 use Rattle.text_base.proofs.Boundaries.{at_start, past_ascii}
-use Rattle.query_script.specs.Reader.{cuts_of}
+use Rattle.query_script.specs.inner.Reader.{cuts_of}
 use Rattle.query_script.proofs.CutLemmas.{begins, cuts_here, goes_past, cut_ascii}
 use Rattle.query_script.proofs.cuts.pieces.Goals as goal
 

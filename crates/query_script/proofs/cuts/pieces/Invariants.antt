@@ -1,7 +1,7 @@
 use Rattle.std.proofs.Common.{◌≤◌, map}
 use Rattle.std.specs.List.{slice_range}
 use Rattle.text_base.specs.Text.{IsPlace}
-use Rattle.query_script.specs.Reader.{cuts_of}
+use Rattle.query_script.specs.inner.Reader.{cuts_of}
 use Rattle.query_script.proofs.CutLemmas.{Cutting}
 use Rattle.query_script.proofs.cuts.pieces.Given as goal
 

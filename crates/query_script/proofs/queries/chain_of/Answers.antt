@@ -1,5 +1,5 @@
 use Rattle.std.proofs.Common.{arith, refl}
-use Rattle.query_script.specs.Reader.{written_of}
+use Rattle.query_script.specs.inner.Reader.{written_of}
 use Rattle.query_script.proofs.QueryLemmas.{keeping_next, all_keep, all_ordered}
 use Rattle.query_script.proofs.queries.chain_of.Goals as goal
 

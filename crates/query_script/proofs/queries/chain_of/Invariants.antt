@@ -1,5 +1,5 @@
 use Rattle.std.proofs.Common.{drop, map}
-use Rattle.query_script.specs.Reader.{written_of}
+use Rattle.query_script.specs.inner.Reader.{written_of}
 use Rattle.query_script.proofs.QueryLemmas.{Keeping}
 use Rattle.query_script.proofs.queries.chain_of.Given as goal
 

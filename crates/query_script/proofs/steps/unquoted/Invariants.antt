@@ -1,6 +1,6 @@
 use Rattle.std.proofs.Common.{length, drop, ◌-◌, ◌≤◌, ◌≡◌, false, string_bytes}
 use Rattle.text_base.specs.Text.{IsPlace}
-use Rattle.query_script.specs.Reader.{unquoted}
+use Rattle.query_script.specs.inner.Reader.{unquoted}
 use Rattle.query_script.proofs.StringLemmas.{behind}
 use Rattle.query_script.proofs.steps.unquoted.Given as goal
 

@@ -1,4 +1,4 @@
--- Reading from the left, for the contracts of private functions alone.
+-- Reading from the left.
 use Rattle.std.specs.Prelude.{◌≡◌, ℕ, ◌-◌, ◌==◌, ◌&&◌, nat_lt, Bool, true, false, List, [], ◌∷◌, length, map, take, Option, Some, None, option_map, option_and_then, codes, encode_utf8_all, string_bytes, slice_index_or, if◌then◌else◌}
 use Rattle.std.specs.List.{before_first, after_first}
 use Rattle.std.specs.Str.{bytes_eq}
