@@ -3,6 +3,7 @@ pub mod Pages
 pub mod Reading
 pub mod Sink
 pub mod Files
+pub mod Laws
 pub mod Shelf
 pub mod Mem
 pub mod Sure

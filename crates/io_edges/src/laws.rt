@@ -1,5 +1,6 @@
-//! What holds of pages and sinks in memory, so that nobody has to look into them.
+//! What holds of pages and sinks, so that nobody has to look into them.
 ghost use Rattle.std.specs.Prelude.{◌≡◌};
+ghost use Rattle.io_edges.specs.Laws.{TakingLaw};
 
 use crate::{NullSink, Pages, Sink, SurePages};
 
@@ -8,4 +9,10 @@ use crate::{NullSink, Pages, Sink, SurePages};
 pub fn never_counts(pages: &SurePages, sink: &NullSink)
     ensures pages { ⟦<SurePages as Pages>⟧.faults pages.now ≡ 0 }
     ensures sink { ⟦<NullSink as Sink>⟧.faults sink.now ≡ 0 }
+{}
+
+/// What a sink takes in pieces it takes as a whole, whatever the pieces, and an empty one changes nothing.
+#[tactic(auto, using(crate::proofs::SinkLemmas::takings))]
+pub fn pieces_add_up()
+    ensures { TakingLaw }
 {}

@@ -16,7 +16,7 @@ mod sure_pages;
 mod write;
 
 pub use file_pages::FilePages;
-pub use laws::never_counts;
+pub use laws::{never_counts, pieces_add_up};
 pub use mem_pages::MemPages;
 pub use mem_sink::MemSink;
 pub use null_sink::NullSink;
