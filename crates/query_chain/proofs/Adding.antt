@@ -8,7 +8,7 @@ use Rattle.text_base.proofs.Text.{encode-chars}
 use Rattle.query_chain.specs.declared.limits.Limits.{Limits}
 use Rattle.query_chain.specs.declared.found.Found.{Found}
 use Rattle.query_chain.specs.Items.{bytes_of}
-use Rattle.query_chain.specs.Found.{Adds}
+use Rattle.query_chain.specs.inner.Found.{Adds}
 
 pub bytes-append : (xs ys : List (List ℕ)) → bytes_of (xs ++ ys) ≡ bytes_of xs + bytes_of ys
 bytes-append xs ys = sum_by-append (λ t. length (encode_utf8_all t)) xs ys

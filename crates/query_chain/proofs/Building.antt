@@ -12,7 +12,7 @@ use Rattle.regex.specs.Patterns.{Re, SameCaptures, default_config}
 use Rattle.regex.specs.Strings.{regex_pattern, regex_source, regex_config, regex_names, IsReadFromSource}
 use Rattle.regex.specs.declared.string.regex.Regex.{Regex}
 use Rattle.query_chain.specs.Patterns.{shallow, pattern_of}
-use Rattle.query_chain.specs.Built.{Stands, IsBuilt}
+use Rattle.query_chain.specs.inner.Built.{Stands, IsBuilt}
 
 built_by : (r : Regex) (o : Option (Nested Re × Names)) (Q : Nested Re → Names → Type 0) →
     IsSomeAnd o (λ (re, found). (re.depth ≤ 250) × SameCaptures (regex_pattern r) re.value × (regex_names r ≡ found) × Q re found) →

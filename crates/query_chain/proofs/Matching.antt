@@ -16,7 +16,7 @@ use Rattle.regex.proofs.SearchLemmas.{matches_after_none, matches_after_some, ma
 use Rattle.query_chain.specs.declared.limits.Limits.{Limits}
 use Rattle.query_chain.specs.declared.found.Found.{Found}
 use Rattle.query_chain.specs.Patterns.{group_text, texts_of, match_texts}
-use Rattle.query_chain.specs.Found.{Adds}
+use Rattle.query_chain.specs.inner.Found.{Adds}
 use Rattle.query_chain.proofs.Adding.{adds_both, adds_none}
 
 abbrev pub span_text : List ℕ → Option (ℕ × ℕ) → List ℕ

@@ -12,11 +12,11 @@ use Rattle.xpath_parser.proofs.Asked.{asks_only}
 use Rattle.xpath_parser.proofs.Asking.{asks_none}
 use Rattle.query_chain.specs.declared.ready_steps.ReadyStep.{ReadyStep}
 use Rattle.query_chain.specs.declared.ready_steps.ReadyStep.TheVariants as ready
-use Rattle.query_chain.specs.Built.{Stands, IsBuilt}
+use Rattle.query_chain.specs.inner.Built.{Stands, IsBuilt}
 use Rattle.query_chain.specs.Chains.{IsAction, AreActions}
 use Rattle.query_chain.specs.Patterns.{Pattern, pattern_of}
-use Rattle.query_chain.specs.Readiness.{IsReadable, IsReady, AreReady}
-use Rattle.query_chain.specs.Steps.{action_of, IsUsable}
+use Rattle.query_chain.specs.inner.Readiness.{IsReadable, IsReady, AreReady}
+use Rattle.query_chain.specs.inner.Steps.{action_of, IsUsable}
 
 more_ready : (steps : List ChainStep) (rs : List ReadyStep) (s : ChainStep) (r : ReadyStep) → AreReady steps rs → IsReady s r → AreReady (steps ++ s ∷ []) (rs ++ r ∷ [])
 more_ready [] [] s r h k = (k, tt)

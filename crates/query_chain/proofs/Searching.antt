@@ -13,9 +13,9 @@ use Rattle.regex.proofs.ForCallers.{find_all_alike, spans}
 use Rattle.query_chain.specs.declared.limits.Limits.{Limits}
 use Rattle.query_chain.specs.declared.found.Found.{Found}
 use Rattle.query_chain.specs.Items.{bytes_of}
-use Rattle.query_chain.specs.Found.{IsNew, Adds}
+use Rattle.query_chain.specs.inner.Found.{IsNew, Adds}
 use Rattle.query_chain.specs.Patterns.{Pattern, pattern_of, texts_of, match_texts, matched, found_texts}
-use Rattle.query_chain.specs.Built.{Stands, IsBuilt}
+use Rattle.query_chain.specs.inner.Built.{Stands, IsBuilt}
 use Rattle.query_chain.proofs.Adding.{adds_both}
 use Rattle.query_chain.proofs.Lists.{flat_split, flat_more}
 

@@ -14,7 +14,7 @@ use Rattle.xpath_parser.specs.Shapes.{shape_of, is_nodes}
 use Rattle.xpath_parser.specs.Denote.{denote}
 use Rattle.query_chain.specs.Chains.{Action, select, gives, step_items, value_items}
 use Rattle.query_chain.specs.Items.{Item, node, text, strings, bytes_of}
-use Rattle.query_chain.specs.Values.{is_rows}
+use Rattle.query_chain.specs.inner.Values.{is_rows}
 use Rattle.query_chain.proofs.Adding.{bytes-append}
 use Rattle.query_chain.proofs.Lists.{flat_split, flat_more, strings_texts, strings-append}
 use Rattle.query_chain.proofs.Shapes.{typed_rows}

@@ -27,7 +27,7 @@ use Rattle.xpath_parser.specs.Denote.{denote, applied, arm_at}
 use Rattle.xpath_parser.specs.Grammar.{Node, Reads, at, rest, signed, primary, args, preds, test, step, steps, Operands, operand, joined, made, negated, filtered}
 use Rattle.xpath_parser.specs.Grammar as grammar
 use Rattle.xpath_parser.proofs.Equations.{at_or, at_and, at_joined, at_minus, at_union, at_path, at_filter, at_literal, at_number, at_call}
-use Rattle.query_chain.specs.Values.{is_rows}
+use Rattle.query_chain.specs.inner.Values.{is_rows}
 
 GivesRows : Document → Expr → Type 0
 GivesRows doc x = (c : Context) → is_well_typed x ≡ true → is_rows (denote doc x c) ≡ is_nodes (shape_of x)

@@ -12,7 +12,7 @@ use Rattle.query_chain.specs.declared.limits.Stop.{Stop}
 use Rattle.query_chain.specs.declared.limits.Stop.TheVariants.{Selection, Output, Memory}
 use Rattle.query_chain.specs.Chains.{Action, select, search, step_items, searched, item_text, item_texts, if_passed, is_over, step_passes, steps_pass, end_passes, first_reason, last_items, taken_texts, value_of, answer}
 use Rattle.query_chain.specs.Items.{Item, node, text, strings, bytes_of}
-use Rattle.query_chain.specs.Steps.{IsFirst, IsStopOf}
+use Rattle.query_chain.specs.inner.Steps.{IsFirst, IsStopOf}
 use Rattle.query_chain.specs.Patterns.{found_texts}
 use Rattle.query_script.specs.declared.script.Take.{Take}
 use Rattle.query_chain.proofs.Lists.{strings_texts, strings_nodes}

@@ -166,9 +166,16 @@ IsChainValue limits doc x (chain.Steps steps end) v =
     ((list_any is_refused steps ≡ true) × (v ≡ value.Refused reason.Pattern))
     ⊎ ((actions : List Action) × AreActions steps actions × (v ≡ answer limits doc x actions end))
 
--- 1,000,000 items after a step, and 8,388,608 bytes of texts
+-- the most items that a step gives
+abbrev pub most_items : ℕ
+most_items = 1000000
+
+-- the most bytes that texts have together
+abbrev pub most_text : ℕ
+most_text = 8388608
+
 abbrev pub field_limits : Limits
-field_limits = record { items = 1000000; bytes = 8388608 }
+field_limits = record { items = most_items; bytes = most_text }
 
 -- the value of a field whose chain starts with row x
 abbrev pub IsValueAt : Document → ℕ → Field → FieldValue → Type 0

@@ -1,10 +1,6 @@
-pub mod Built
 pub mod Chains
-pub mod Found
 pub mod Items
 pub mod Laws
 pub mod Patterns
-pub mod Readiness
-pub mod Steps
 pub mod Tasks
-pub mod Values
+pub mod inner

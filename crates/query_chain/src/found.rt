@@ -1,7 +1,7 @@
 //! The texts that a search finds.
 ghost use Rattle.std.specs.Prelude.{◌≡◌, ◌≢◌, ◌+◌, ◌<◌, [], ◌∷◌, OnOk, IsErrOf};
 ghost use Rattle.std.specs.Str.{chars};
-ghost use Rattle.query_chain.specs.Found.{IsNew, Adds};
+ghost use Rattle.query_chain.specs.inner.Found.{IsNew, Adds};
 
 use crate::limits::{Limits, Stop};
 use std::alloc::Global;

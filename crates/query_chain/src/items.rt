@@ -1,10 +1,11 @@
 //! The items of a chain, and their texts.
 ghost use Rattle.std.specs.Prelude.{◌≡◌, ◌≢◌, ◌<◌, ◌≤◌, length, map, take, encode_utf8_all, nat_le, IfOk, OnOk, IsErrOf};
 ghost use Rattle.doc_model.specs.Document.{Document, row};
+ghost use Rattle.doc_model.specs.RowLists.{AllBelow};
 ghost use Rattle.markup_out.specs.Markup as spec;
 ghost use Rattle.query_chain.specs.Chains.{row_text, item_texts};
 ghost use Rattle.query_chain.specs.Items.{node, bytes_of};
-ghost use Rattle.query_chain.specs.Steps.{items_of, AreRowsOf, AreIn};
+ghost use Rattle.query_chain.specs.inner.Steps.{items_of, AreIn};
 
 use crate::limits::Stop;
 use doc_model::{Kind, Tree};
@@ -89,7 +90,7 @@ fn texts_of_rows<T: Tree>(
     rows: &[u32],
     limit: usize,
 ) -> Result<Vec<Txt>, Stop>
-    requires { AreRowsOf (T.document tree.now) rows.now }
+    requires { AllBelow (length (T.document tree.now)) rows.now }
     ensures texts { IfOk result (λ v. v.items ≡ item_texts (T.document tree.now) (map node rows.now)) }
     ensures within { OnOk result (bytes_of (item_texts (T.document tree.now) (map node rows.now)) ≤ limit) }
     ensures output { IsErrOf result Stop.Output → limit < bytes_of (item_texts (T.document tree.now) (map node rows.now)) }

@@ -3,7 +3,7 @@ ghost use Rattle.std.specs.Prelude.{◌≡◌, IfOk, IsErrOf, None};
 ghost use Rattle.std.specs.Str.{chars};
 ghost use Rattle.regex.specs.Strings.{regex_source};
 ghost use Rattle.query_chain.specs.Patterns.{pattern_of};
-ghost use Rattle.query_chain.specs.Built.{IsBuilt};
+ghost use Rattle.query_chain.specs.inner.Built.{IsBuilt};
 
 use regex::{Error, Regex};
 use std::alloc::{AllocFailed, Global};

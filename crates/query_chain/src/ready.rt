@@ -35,7 +35,7 @@ impl Model for Ready {
 
     ghost coded = { Prim.hlevel (codes, e.the_row.coded) };
 
-    ghost use Rattle.query_chain.specs.Readiness.{task_of, IsSound};
+    ghost use Rattle.query_chain.specs.inner.Readiness.{task_of, IsSound};
 
     ghost view = { λ r. task_of r.chain };
 

@@ -2,7 +2,7 @@
 ghost use Rattle.std.specs.Prelude.{◌≡◌, true, All, IfOk, IsErrOf};
 ghost use Rattle.std.specs.List.{list_any};
 ghost use Rattle.query_chain.specs.Chains.{is_refused};
-ghost use Rattle.query_chain.specs.Readiness.{IsReady, AreReady, IsReadable};
+ghost use Rattle.query_chain.specs.inner.Readiness.{IsReady, AreReady, IsReadable};
 
 use crate::pattern::{BuildFault, build};
 use query_script::ChainStep;

@@ -13,10 +13,15 @@ use query_script::{Field, FieldValue, Reason};
 use std::alloc::Global;
 use text_base::NoMemory;
 
-/// The most items that a step may give, and the most bytes that texts may have together.
+/// The most items that a step may give.
+const MOST_ITEMS: usize = 1_000_000;
+
+/// The most bytes that texts may have together.
+const MOST_TEXT: usize = 8_388_608;
+
 const FIELD_LIMITS: Limits = Limits {
-    items: 1_000_000,
-    bytes: 8_388_608,
+    items: MOST_ITEMS,
+    bytes: MOST_TEXT,
 };
 
 /// The value of a ready field on a document, from a row on: it is that of each field for which this is ready.

@@ -6,9 +6,9 @@ ghost use Rattle.regex.specs.Patterns.{Match, find_str};
 ghost use Rattle.regex.specs.Search.{next_match};
 ghost use Rattle.regex.specs.Strings.{matcher_pattern, regex_pattern, regex_source, captures_span, captures_haystack, IsCapturesOf};
 ghost use Rattle.query_chain.specs.Patterns.{match_texts, texts_of, found_texts};
-ghost use Rattle.query_chain.specs.Built.{IsBuilt};
+ghost use Rattle.query_chain.specs.inner.Built.{IsBuilt};
 ghost use Rattle.query_chain.specs.Items.{bytes_of};
-ghost use Rattle.query_chain.specs.Found.{Adds};
+ghost use Rattle.query_chain.specs.inner.Found.{Adds};
 
 use crate::found::Found;
 use crate::limits::{Limits, Stop};

@@ -1,5 +1,6 @@
 //! A query at each of some rows.
 ghost use Rattle.std.specs.Prelude.{◌≡◌, ◌≢◌, ◌<◌, ◌≤◌, ◌+◌, ◌∷◌, ◌++◌, [], true, false, length, map, codes, encode_utf8_all, IfOk, OnOk, IsErrOf};
+ghost use Rattle.doc_model.specs.RowLists.{AllBelow};
 ghost use Rattle.xpath_values.specs.Numbers as numbers;
 ghost use Rattle.xpath_values.specs.Strings as strings_of;
 ghost use Rattle.xpath_values.specs.declared.value.XNum.TheVariants.{Whole};
@@ -9,8 +10,7 @@ ghost use Rattle.xpath_parser.specs.Asking.{AsksNone};
 ghost use Rattle.xpath_parser.specs.Typed.{expression};
 ghost use Rattle.query_chain.specs.Chains.{select, step_items, value_items};
 ghost use Rattle.query_chain.specs.Items.{node, text, strings, bytes_of};
-ghost use Rattle.query_chain.specs.Steps.{AreRowsOf};
-ghost use Rattle.query_chain.specs.Values.{is_rows};
+ghost use Rattle.query_chain.specs.inner.Values.{is_rows};
 
 use crate::limits::{Limits, Stop};
 use doc_model::Axes;
@@ -118,11 +118,11 @@ pub fn select_rows<S: Axes>(
     rows: &[u32],
     limits: Limits,
 ) -> Result<Vec<u32>, Stop>
-    requires rows { AreRowsOf (S.document source.now) rows.now }
+    requires rows { AllBelow (length (S.document source.now)) rows.now }
     requires shape { is_nodes (shape_of (expression query.now)) ≡ true }
     requires tests { AsksNone (expression query.now) }
     ensures items { IfOk result (λ v. map node v.items ≡ step_items (S.document source.now) (select (expression query.now)) (map node rows.now)) }
-    ensures below { IfOk result (λ v. AreRowsOf (S.document source.now) v.items) }
+    ensures below { IfOk result (λ v. AllBelow (length (S.document source.now)) v.items) }
     ensures few { IfOk result (λ v. length v.items ≤ limits.items) }
     ensures many { IsErrOf result Stop.Selection → limits.items < length (step_items (S.document source.now) (select (expression query.now)) (map node rows.now)) }
     ensures output { result ≢ Err Stop.Output }
@@ -143,7 +143,7 @@ pub fn select_texts<S: Axes>(
     rows: &[u32],
     limits: Limits,
 ) -> Result<Vec<Txt>, Stop>
-    requires rows { AreRowsOf (S.document source.now) rows.now }
+    requires rows { AllBelow (length (S.document source.now)) rows.now }
     requires shape { is_nodes (shape_of (expression query.now)) ≡ false }
     requires tests { AsksNone (expression query.now) }
     ensures items { IfOk result (λ v. map text v.items ≡ step_items (S.document source.now) (select (expression query.now)) (map node rows.now)) }

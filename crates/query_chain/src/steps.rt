@@ -1,15 +1,16 @@
 //! One step after the other.
 ghost use Rattle.std.specs.Prelude.{◌≡◌, ◌≤◌, ◌<◌, [], ◌∷◌, map, length, All, IfOk, IfErr};
 ghost use Rattle.std.specs.Str.{chars};
+ghost use Rattle.doc_model.specs.RowLists.{AllBelow};
 ghost use Rattle.regex.specs.Strings.{regex_source};
 ghost use Rattle.xpath_parser.specs.Asking.{AsksNone};
 ghost use Rattle.xpath_parser.specs.Shapes.{shape_of, is_nodes};
 ghost use Rattle.xpath_parser.specs.Typed.{expression};
-ghost use Rattle.query_chain.specs.Built.{IsBuilt};
+ghost use Rattle.query_chain.specs.inner.Built.{IsBuilt};
 ghost use Rattle.query_chain.specs.Chains as spec;
 ghost use Rattle.query_chain.specs.Chains.{item_texts, step_items, step_passes, last_items, steps_pass, end_passes, taken_texts, answer};
 ghost use Rattle.query_chain.specs.Items.{node};
-ghost use Rattle.query_chain.specs.Steps.{items_of, AreRowsOf, AreIn, action_of, IsUsable, IsFirst, IsStopOf};
+ghost use Rattle.query_chain.specs.inner.Steps.{items_of, AreIn, action_of, IsUsable, IsFirst, IsStopOf};
 
 use crate::items::{Items, texts_of};
 use crate::limits::{Limits, Stop};
@@ -42,7 +43,7 @@ fn select<S: Axes>(
     rows: &[u32],
     limits: Limits,
 ) -> Result<Items, Stop>
-    requires within { AreRowsOf (S.document source.now) rows.now }
+    requires within { AllBelow (length (S.document source.now)) rows.now }
     requires few { length rows.now ≤ limits.items }
     requires tests { AsksNone (expression query.now) }
     ensures items { IfOk result (λ v. items_of v ≡ step_items (S.document source.now) (spec.select (expression query.now)) (map node rows.now)) }

@@ -5,7 +5,7 @@ use Rattle.std.proofs.lemmas.List.{length-map}
 use Rattle.text_base.proofs.Text.{encode-chars}
 use Rattle.regex.specs.Strings.{regex_source, regex_pattern}
 use Rattle.query_chain.specs.Patterns.{match_texts}
-use Rattle.query_chain.specs.Found.{Adds}
+use Rattle.query_chain.specs.inner.Found.{Adds}
 use Rattle.query_chain.proofs.Errors.{moved}
 use Rattle.query_chain.proofs.Searching.{finds}
 use Rattle.query_chain.proofs.search.add_found.Goals as goal

@@ -4,7 +4,7 @@ use Rattle.std.specs.Str.{chars}
 use Rattle.regex.specs.Patterns.{Match}
 use Rattle.regex.specs.Strings.{captures_haystack, IsCapturesOf}
 use Rattle.query_chain.specs.Patterns.{group_text}
-use Rattle.query_chain.specs.Found.{Adds}
+use Rattle.query_chain.specs.inner.Found.{Adds}
 use Rattle.query_chain.proofs.search.add_match.Given as goal
 
 abbrev pub invariant-loop-k : goal.invariant-loop-k

@@ -2,7 +2,7 @@ use Rattle.std.proofs.Common.{◌≡◌, take}
 use Rattle.std.specs.Prelude.{flat_map}
 use Rattle.std.specs.Str.{chars}
 use Rattle.regex.specs.Strings.{regex_pattern, regex_source, matcher_pattern}
-use Rattle.query_chain.specs.Found.{IsNew, Adds}
+use Rattle.query_chain.specs.inner.Found.{IsNew, Adds}
 use Rattle.query_chain.specs.Patterns.{found_texts}
 use Rattle.query_chain.proofs.search.search_texts.Given as goal
 

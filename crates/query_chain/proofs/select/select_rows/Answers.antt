@@ -7,7 +7,7 @@ use Rattle.doc_model.specs.RowLists.{Run}
 use Rattle.xpath_parser.specs.Typed.{expression}
 use Rattle.query_chain.specs.Chains.{select, value_items}
 use Rattle.query_chain.specs.Items.{node}
-use Rattle.query_chain.specs.Values.{is_rows}
+use Rattle.query_chain.specs.inner.Values.{is_rows}
 use Rattle.query_chain.proofs.Errors.{moved}
 use Rattle.query_chain.proofs.Selecting.{row_more, rows_done, rows_many, run_below}
 use Rattle.query_chain.proofs.Shapes.{typed_rows}

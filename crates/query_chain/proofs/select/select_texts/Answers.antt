@@ -5,7 +5,7 @@ use Rattle.std.proofs.lemmas.List.Sums.{sum_by_push}
 use Rattle.xpath_parser.specs.Typed.{expression}
 use Rattle.query_chain.specs.Chains.{select, value_items}
 use Rattle.query_chain.specs.Items.{text, bytes_of}
-use Rattle.query_chain.specs.Values.{is_rows}
+use Rattle.query_chain.specs.inner.Values.{is_rows}
 use Rattle.query_chain.proofs.Errors.{moved}
 use Rattle.query_chain.proofs.Selecting.{row_more, rows_done, texts_over}
 use Rattle.query_chain.proofs.Shapes.{typed_rows}

@@ -3,7 +3,7 @@ use Rattle.std.specs.List.{All}
 use Rattle.std.proofs.lemmas.Result.{err_from_is_err_and}
 use Rattle.std.proofs.lemmas.List.{drop_more}
 use Rattle.query_chain.specs.Items.{node}
-use Rattle.query_chain.specs.Steps.{items_of, action_of}
+use Rattle.query_chain.specs.inner.Steps.{items_of, action_of}
 use Rattle.query_chain.proofs.Lists.{all_one, none_left}
 use Rattle.query_chain.proofs.Stepping.{IsOn, on_start, on_step, on_stop, on_end}
 use Rattle.query_chain.proofs.steps.give_all.Goals as goal

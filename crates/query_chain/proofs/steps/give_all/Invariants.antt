@@ -1,6 +1,6 @@
 use Rattle.std.proofs.Common.{[], ◌∷◌, ◌≤◌, map, drop, length}
 use Rattle.query_chain.specs.Items.{node}
-use Rattle.query_chain.specs.Steps.{items_of, action_of, AreIn}
+use Rattle.query_chain.specs.inner.Steps.{items_of, action_of, AreIn}
 use Rattle.query_chain.proofs.Stepping.{IsOn}
 use Rattle.query_chain.proofs.steps.give_all.Given as goal
 

@@ -1,6 +1,6 @@
 use Rattle.std.proofs.Common.{◌∙◌, map}
 use Rattle.std.proofs.lemmas.Result.{err_from_is_err_and}
-use Rattle.query_chain.specs.Steps.{items_of, action_of}
+use Rattle.query_chain.specs.inner.Steps.{items_of, action_of}
 use Rattle.query_chain.proofs.Stepping.{answered, stopped_early, stopped_late}
 use Rattle.query_chain.proofs.steps.run_steps.Goals as goal
 

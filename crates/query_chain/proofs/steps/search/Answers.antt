@@ -2,7 +2,7 @@ use Rattle.std.proofs.Common.{◌∙◌, ap, Err}
 use Rattle.std.proofs.lemmas.Result.{err_from_is_err_and}
 use Rattle.std.specs.Str.{chars}
 use Rattle.regex.specs.Strings.{regex_source}
-use Rattle.query_chain.specs.Steps.{items_of}
+use Rattle.query_chain.specs.inner.Steps.{items_of}
 use Rattle.query_chain.proofs.Stepping.{stopped_search, search_items, search_passes}
 use Rattle.query_chain.proofs.steps.search.Goals as goal
 

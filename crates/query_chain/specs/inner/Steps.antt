@@ -1,7 +1,8 @@
 -- What the private functions hold while the steps of a field run.
-use Rattle.std.specs.Prelude.{◌≡◌, ℕ, ◌<◌, List, ◌∷◌, map, length, All}
+use Rattle.std.specs.Prelude.{◌≡◌, List, ◌∷◌, map, length}
 use Rattle.std.specs.Str.{chars}
 use Rattle.doc_model.specs.Document.{Document}
+use Rattle.doc_model.specs.RowLists.{AllBelow}
 use Rattle.xpath_parser.specs.Asking.{AsksNone}
 use Rattle.xpath_parser.specs.Typed.{expression}
 use Rattle.query_script.specs.declared.script.FieldValue.{FieldValue}
@@ -17,18 +18,15 @@ use Rattle.query_chain.specs.declared.ready_steps.ReadyStep.{ReadyStep}
 use Rattle.query_chain.specs.declared.ready_steps.ReadyStep.TheVariants as ready
 use Rattle.query_chain.specs.Items.{Item, node, text}
 use Rattle.query_chain.specs.Chains.{Action, select, search}
-use Rattle.query_chain.specs.Built.{IsBuilt}
+use Rattle.query_chain.specs.inner.Built.{IsBuilt}
 
 abbrev pub items_of : Items → List Item
 items_of (Rows rows) = map node rows.items
 items_of (Texts texts) = map text texts.items
 
--- each number is that of a row
-abbrev pub AreRowsOf : Document → List ℕ → Type 0
-AreRowsOf doc xs = All (λ x. x < length doc) xs
-
+-- the rows are rows of the document
 abbrev pub AreIn : Document → Items → Type 0
-AreIn doc (Rows rows) = AreRowsOf doc rows.items
+AreIn doc (Rows rows) = AllBelow (length doc) rows.items
 AreIn doc (Texts texts) = Unit {0}
 
 -- what a prepared step does

@@ -11,8 +11,8 @@ use Rattle.query_chain.specs.declared.ready_steps.ReadyStep.{ReadyStep}
 use Rattle.query_chain.specs.declared.ready_steps.ReadyStep.TheVariants as ready
 use Rattle.query_chain.specs.declared.ready.ReadyChain.{ReadyChain}
 use Rattle.query_chain.specs.declared.ready.ReadyChain.TheVariants as left
-use Rattle.query_chain.specs.Built.{IsBuilt}
-use Rattle.query_chain.specs.Steps.{action_of, IsUsable}
+use Rattle.query_chain.specs.inner.Built.{IsBuilt}
+use Rattle.query_chain.specs.inner.Steps.{action_of, IsUsable}
 use Rattle.query_chain.specs.Tasks.{Task, refuses, does}
 
 -- the text of the query reads as an expression

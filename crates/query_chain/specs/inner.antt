@@ -1,0 +1,6 @@
+-- What private functions and proofs say. No contract of a public call cites it.
+pub mod Built
+pub mod Found
+pub mod Readiness
+pub mod Steps
+pub mod Values
