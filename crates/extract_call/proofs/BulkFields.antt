@@ -5,7 +5,7 @@ use Rattle.text_base.specs.declared.reasons.ScriptFault.TheVariants as script
 use Rattle.css_selectors.specs.declared.selector.Dialect.TheVariants.{Html}
 use Rattle.query_script.specs.Cuts.{fields_of}
 use Rattle.query_script.specs.Fields.{IsScriptFault}
-use Rattle.extract_call.specs.Below.{Below}
+use Rattle.extract_call.specs.inner.Below.{Below}
 use Rattle.extract_call.specs.Bulk.{bulk_script}
 use Rattle.extract_call.specs.Laws.{BulkLaw}
 

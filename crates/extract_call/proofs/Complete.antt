@@ -2,6 +2,7 @@
 use Rattle.std.proofs.Common.{◌≡◌, ◌≢◌, ◌≤◌, refl, ℕ, ◌<◌, List, [], Option, Some, None, length, sym, ◌∙◌, ap, arith, inl, inr, append-nil, subst}
 use Rattle.std.specs.Prelude.{IfSome, Bool, true, false, ◌||◌, ◌⊎◌, slice_index_or}
 use Rattle.io_edges.specs.Counts.{Rose, Grows}
+use Rattle.io_edges.specs.Laws.{TakingLaw}
 use Rattle.io_edges.specs.Pages.{Lacks}
 use Rattle.io_edges.specs.Sink.{grown, TakesPart}
 use Rattle.extract_call.specs.Answers.{Answer, bytes_of, line_bytes}
@@ -15,37 +16,37 @@ use Rattle.extract_call.specs.declared.status.Status.{Status}
 use Rattle.extract_call.specs.declared.status.Status.TheVariants.{Done, Refused, Usage, Memory, ReadFault, WriteFault}
 
 -- a run that found no memory before it began a page
-pub nothing_written : (plan : Plan) (told : Option (List (List ℕ × List ℕ))) (b f : ℕ) (old : Option (List ℕ)) (s : ℕ) → Ended plan told b b f f old old s s Memory
-nothing_written plan told b f old s = record {
+pub nothing_written : (law : TakingLaw) (plan : Plan) (told : Option (List (List ℕ × List ℕ))) (b f : ℕ) (old : Option (List ℕ)) (s : ℕ) → Ended plan told b b f f old old s s Memory
+nothing_written law plan told b f old s = record {
   prefix = front (known plan told) (λ pages. bytes_of (answers plan pages));
   done = λ z. absurd (cc);
   refused = λ z. absurd (cc);
   begun_all = neither;
   read_fault = λ z. absurd (cc);
-  in_turn = turn_of_nothing plan told old b;
+  in_turn = turn_of_nothing law plan told old b;
   write_fault = λ z. absurd (cc);
   used = λ z. cc;
 }
   where
     front : (told : Option (List (List ℕ × List ℕ))) (bytes : List (List ℕ × List ℕ) → List ℕ) → IfSome told (λ pages. TakesPart old (bytes pages) old)
     front None bytes = tt
-    front (Some pages) bytes = part_of_nothing old (bytes pages)
+    front (Some pages) bytes = part_of_nothing law old (bytes pages)
 
     neither : (Memory ≡ Done) ⊎ (Memory ≡ Refused) → Grows b (length (names_of plan)) b
     neither (inl e) = absurd (cc)
     neither (inr e) = absurd (cc)
 
 -- a run without pages whose line was not written whole
-pub alone_stopped : (made a : Answer) (told : Option (List (List ℕ × List ℕ))) (b f : ℕ) (old new : Option (List ℕ)) (s s' : ℕ) (status : Status) →
+pub alone_stopped : (law : TakingLaw) (made a : Answer) (told : Option (List (List ℕ × List ℕ))) (b f : ℕ) (old new : Option (List ℕ)) (s s' : ℕ) (status : Status) →
     TakesPart old (line_bytes made) new → made ≡ a → (status ≡ WriteFault → Rose s s') →
     (status ≡ Done → ⊥) → (status ≡ Refused → ⊥) → (status ≡ Usage → ⊥) → (status ≡ ReadFault → ⊥) → Ended (alone a) told b b f f old new s s' status
-alone_stopped made a told b f old new s s' status t same wf nd nr nu nf = record {
+alone_stopped law made a told b f old new s s' status t same wf nd nr nu nf = record {
   prefix = rw (append-nil (line_bytes a)) part;
   done = λ z. absurd (nd z);
   refused = λ z. absurd (nr z);
   begun_all = neither;
   read_fault = λ z. absurd (nf z);
-  in_turn = turn_alone a told old new b part;
+  in_turn = turn_alone law a told old new b part;
   write_fault = wf;
   used = nu;
 }
@@ -154,22 +155,22 @@ run_at plan pages sink sink' status r =
     }
 
 -- a run that found no memory before it began a page
-pub nothing_run : {P : Type 0} (plan : Plan) (pages : PagesAt P) (sink : SinkAt) → Run plan pages pages sink sink Memory
-nothing_run plan pages sink = run_of plan pages pages sink sink Memory (nothing_written plan pages.told pages.begun pages.faults sink.taken sink.faults) (λ none. refl)
+pub nothing_run : {P : Type 0} (law : TakingLaw) (plan : Plan) (pages : PagesAt P) (sink : SinkAt) → Run plan pages pages sink sink Memory
+nothing_run law plan pages sink = run_of plan pages pages sink sink Memory (nothing_written law plan pages.told pages.begun pages.faults sink.taken sink.faults) (λ none. refl)
 
 -- a run without pages whose line was not written whole
-pub part_run : {P : Type 0} (made a : Answer) (pages : PagesAt P) (sink sink' : SinkAt) (status : Status) → made ≡ a → TakesPart sink.taken (line_bytes made) sink'.taken →
+pub part_run : {P : Type 0} (law : TakingLaw) (made a : Answer) (pages : PagesAt P) (sink sink' : SinkAt) (status : Status) → made ≡ a → TakesPart sink.taken (line_bytes made) sink'.taken →
     (status ≡ WriteFault → Rose sink.faults sink'.faults) → (status ≡ Done → ⊥) → (status ≡ Refused → ⊥) → (status ≡ Usage → ⊥) → (status ≡ ReadFault → ⊥) →
     Run (alone a) pages pages sink sink' status
-part_run made a pages sink sink' status same part wf nd nr nu nf =
+part_run law made a pages sink sink' status same part wf nd nr nu nf =
     run_of (alone a) pages pages sink sink' status
-    (alone_stopped made a pages.told pages.begun pages.faults sink.taken sink'.taken sink.faults sink'.faults status part same wf nd nr nu nf) (λ none. refl)
+    (alone_stopped law made a pages.told pages.begun pages.faults sink.taken sink'.taken sink.faults sink'.faults status part same wf nd nr nu nf) (λ none. refl)
 
 -- and one whose line was written
-pub whole_run : {P : Type 0} (made a : Answer) (pages : PagesAt P) (sink sink' : SinkAt) (status : Status) → made ≡ a → sink'.taken ≡ grown sink.taken (line_bytes made) →
+pub whole_run : {P : Type 0} (law : TakingLaw) (made a : Answer) (pages : PagesAt P) (sink sink' : SinkAt) (status : Status) → made ≡ a → sink'.taken ≡ grown sink.taken (line_bytes made) →
     (status ≡ Done → made.refused ≡ false) → (status ≡ Refused → made.refused ≡ true) → (status ≡ Usage → ⊥) → (status ≡ ReadFault → ⊥) → (status ≡ WriteFault → ⊥) →
     Run (alone a) pages pages sink sink' status
-whole_run made a pages sink sink' status same all d r nu nf nw = run_of (alone a) pages pages sink sink' status written (λ none. refl)
+whole_run law made a pages sink sink' status same all d r nu nf nw = run_of (alone a) pages pages sink sink' status written (λ none. refl)
   where
     taken : sink'.taken ≡ grown sink.taken (line_bytes a)
     taken = subst (λ (x : Answer). sink'.taken ≡ grown sink.taken (line_bytes x)) same all
@@ -192,7 +193,7 @@ whole_run made a pages sink sink' status same all d r nu nf nw = run_of (alone a
       refused = λ z. by_truth true (r z);
       begun_all = λ z. omega arith;
       read_fault = λ z. absurd (nf z);
-      in_turn = turn_alone a pages.told sink.taken sink'.taken pages.begun (part_whole sink.taken sink'.taken (line_bytes a) taken);
+      in_turn = turn_alone law a pages.told sink.taken sink'.taken pages.begun (part_whole sink.taken sink'.taken (line_bytes a) taken);
       write_fault = λ z. absurd (nw z);
       used = nu;
     }

@@ -1,8 +1,10 @@
 -- Numbers in words: what `count_of` gives, case by case.
 use Rattle.std.proofs.Common.{◌≡◌, ℕ, zero, suc, ◌<◌, ◌≤◌, List, [], ◌∷◌, length, take, get_or, refl, arith, Some, None, ap}
-use Rattle.std.specs.Prelude.{Bool, true, false, nat_le, ◌&&◌}
+use Rattle.std.specs.Prelude.{true, false, nat_le}
 use Rattle.std.specs.List.{list_all}
-use Rattle.extract_call.specs.Words.{count_of, is_digit, digits_value}
+use Rattle.std.proofs.lemmas.List.Folds.{list_all_at}
+use Rattle.text_base.specs.Text.{is_digit, digits_value}
+use Rattle.extract_call.specs.Words.{count_of}
 
 le_true : (a b : ℕ) → a ≤ b → nat_le a b ≡ true
 le_true a b h = grind arith
@@ -18,18 +20,9 @@ pub count_long : (word : List ℕ) → 5 < length word → None ≡ count_of wor
 unfolding count_of
 count_long word h = rw (le_true 1 (length word) (omega arith), le_false (length word) 5 h) refl
 
-not_all : (p : ℕ → Bool) (word : List ℕ) (i : ℕ) → i < length word → p (get_or word i 0) ≡ false → list_all p word ≡ false
-not_all p [] i w e = absurd (omega arith)
-not_all p (x ∷ word) zero w e = rw e refl
-not_all p (x ∷ word) (suc i) w e = and_false (p x) (list_all p word) (not_all p word i (omega arith) e)
-  where
-    and_false : (a b : Bool) → b ≡ false → (a && b) ≡ false
-    and_false true b q = q
-    and_false false b q = refl
-
 pub count_other : (word : List ℕ) (i : ℕ) → 1 ≤ length word → length word ≤ 5 → i < length word → is_digit (get_or word i 0) ≡ false → None ≡ count_of word
 unfolding count_of
-count_other word i a b w e = rw (le_true 1 (length word) a, le_true (length word) 5 b, not_all is_digit word i w e) refl
+count_other word i a b w e = rw (le_true 1 (length word) a, le_true (length word) 5 b, list_all_at is_digit word i 0 w e) refl
 
 pub count_low : (word : List ℕ) → 1 ≤ length word → length word ≤ 5 → list_all is_digit word ≡ true → digits_value word < 1 → None ≡ count_of word
 unfolding count_of

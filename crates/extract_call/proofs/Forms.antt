@@ -5,9 +5,10 @@ use Rattle.std.specs.List.{list_all}
 use Rattle.std.specs.Str.{bytes_eq}
 use Rattle.std.proofs.lemmas.Bool.Decides.{nat_tests}
 use Rattle.std.proofs.lemmas.Slice.Eq.{bytes_eq-Decides}
+use Rattle.text_base.specs.Text.{is_digit, digits_value}
 use Rattle.css_selectors.specs.declared.selector.Dialect.{Dialect}
 use Rattle.css_selectors.specs.declared.selector.Dialect.TheVariants.{Generic, Html}
-use Rattle.extract_call.specs.Words.{Command, css, run, bulk, IsWords, IsCount, is_digit, digits_value, count_of, dialect_of, dialect_word, read}
+use Rattle.extract_call.specs.Words.{Command, css, run, bulk, IsWords, IsCount, count_of, dialect_of, dialect_word, read}
 use Rattle.extract_call.specs.Laws.{WordsLaw}
 use Rattle.extract_call.proofs.Counts.{count_read}
 

@@ -3,14 +3,14 @@ use Rattle.std.proofs.Common.{◌≡◌, ◌≢◌, ℕ, zero, suc, ◌<◌, ◌
 use Rattle.std.specs.Prelude.{Bool, true, false, ◌||◌, slice_index_or}
 use Rattle.std.specs.Option.{option_map_or}
 use Rattle.std.proofs.lemmas.List.{append-nil}
+use Rattle.io_edges.specs.Laws.{TakingLaw}
 use Rattle.io_edges.specs.Pages.{page}
 use Rattle.io_edges.specs.Sink.{grown, TakesPart}
-use Rattle.io_edges.proofs.SinkLemmas.{grown-grown, takes_nothing}
 use Rattle.extract_call.specs.Answers.{Answer, bytes_of, refuses, line_bytes}
 use Rattle.extract_call.specs.Output.{page_answers, HasAll}
 
-pub part_of_nothing : (old : Option (List ℕ)) (bytes : List ℕ) → TakesPart old bytes old
-part_of_nothing old bytes = (bytes, takes_nothing old bytes)
+pub part_of_nothing : (law : TakingLaw) (old : Option (List ℕ)) (bytes : List ℕ) → TakesPart old bytes old
+part_of_nothing law old bytes = (bytes, law.none_taken old bytes)
 
 -- a part of what stands at the front is a part of the whole
 pub part_of_front : (old new : Option (List ℕ)) (bytes more : List ℕ) → TakesPart old bytes new → TakesPart old (bytes ++ more) new
@@ -24,13 +24,13 @@ part_of_front old new bytes more t = (
 )
 
 -- a part behind a front that was taken whole
-pub part_behind : (old mid new : Option (List ℕ)) (front bytes : List ℕ) → mid ≡ grown old front → TakesPart mid bytes new → TakesPart old (front ++ bytes) new
-part_behind old mid new front bytes e t = (
+pub part_behind : (law : TakingLaw) (old mid new : Option (List ℕ)) (front bytes : List ℕ) → mid ≡ grown old front → TakesPart mid bytes new → TakesPart old (front ++ bytes) new
+part_behind law old mid new front bytes e t = (
   t.0,
   record {
     front = front ++ t.1.front;
     whole = ap (λ x. front ++ x) t.1.whole ∙ sym (append_assoc front t.1.front t.0);
-    taken = t.1.taken ∙ (ap (λ m. grown m t.1.front) e ∙ grown-grown old front t.1.front);
+    taken = t.1.taken ∙ (ap (λ m. grown m t.1.front) e ∙ law.in_turn old front t.1.front);
   },
 )
 

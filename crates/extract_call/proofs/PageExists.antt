@@ -11,7 +11,7 @@ use Rattle.query_script.specs.declared.script.FieldValue.{FieldValue}
 use Rattle.query_script.specs.Ordered.{IsOrdered}
 use Rattle.query_chain.specs.Chains.{IsValue}
 use Rattle.json_lines.specs.Pages.{page_text, refused_text}
-use Rattle.extract_call.specs.Below.{Below}
+use Rattle.extract_call.specs.inner.Below.{Below}
 use Rattle.extract_call.specs.Answers.{Answer}
 use Rattle.extract_call.specs.PageLines.{most_page, too_long, AreValues, is_refused, IsPageLine, IsValuesLine, MakesLines}
 use Rattle.extract_call.proofs.Readings.{within_or_past}

@@ -12,7 +12,7 @@ use Rattle.query_script.specs.declared.script.FieldValue.{FieldValue}
 use Rattle.json_lines.specs.Pages.{page_text, refused_text}
 use Rattle.extract_call.specs.declared.answers.Line.{Line}
 use Rattle.extract_call.specs.Answers.{Answer, answer_of}
-use Rattle.extract_call.specs.Below.{Below}
+use Rattle.extract_call.specs.inner.Below.{Below}
 use Rattle.extract_call.specs.OnePage.{IsTextLine}
 use Rattle.extract_call.specs.PageLines.{most_page, too_long, IsNoTree, IsPageRefused, AreValues, is_refused, IsShownLine, IsValuesLine, IsPageLine}
 

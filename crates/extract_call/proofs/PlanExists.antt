@@ -6,7 +6,7 @@ use Rattle.css_selectors.specs.declared.selector.Dialect.{Dialect}
 use Rattle.query_script.specs.declared.script.Field.{Field}
 use Rattle.query_script.specs.Fields.{IsScript, IsScriptFault}
 use Rattle.json_lines.specs.Lines.{reason_text}
-use Rattle.extract_call.specs.Below.{Below}
+use Rattle.extract_call.specs.inner.Below.{Below}
 use Rattle.extract_call.specs.Bulk.{bulk_text}
 use Rattle.extract_call.specs.Laws.{HasQueries, SomePlan}
 use Rattle.extract_call.specs.Plans.{Plan, alone, over, IsPlan}

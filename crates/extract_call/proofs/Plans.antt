@@ -18,11 +18,12 @@ use Rattle.css_printed.specs.Printed.{printed}
 use Rattle.query_script.specs.declared.script.Field.{Field}
 use Rattle.query_script.specs.Fields.{IsScript, IsScriptFault}
 use Rattle.json_lines.specs.Lines.{css_text, reason_text}
+use Rattle.xpath_lexer.specs.Places.{most_xpath}
 use Rattle.extract_call.specs.declared.answers.Line.{Line}
 use Rattle.extract_call.specs.Answers.{Answer, answer_of}
-use Rattle.extract_call.specs.Below.{Below}
+use Rattle.extract_call.specs.inner.Below.{Below}
 use Rattle.extract_call.specs.Bulk.{bulk_script, bulk_text}
-use Rattle.extract_call.specs.CssLines.{IsKept, IsCssLine, IsListLine, IsRefusalLine, IsRefusedFor, most_xpath}
+use Rattle.extract_call.specs.CssLines.{IsKept, IsCssLine, IsListLine, IsRefusalLine, IsRefusedFor}
 use Rattle.extract_call.specs.Laws.{OnePlan, HasQueries}
 use Rattle.extract_call.specs.PageLines.{IsPageLine, IsValuesLine, MakesLines}
 use Rattle.extract_call.specs.Plans.{Plan, alone, over, IsPlan, IsScriptRefused, IsBulkLine, ForPlan}

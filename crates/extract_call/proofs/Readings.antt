@@ -9,7 +9,7 @@ use Rattle.css_selectors.specs.declared.selector.SelectorList.{SelectorList}
 use Rattle.css_parser.specs.Selecting.{Accepts, IsFault}
 use Rattle.css_printed.specs.Printed.{printed}
 use Rattle.css_printed.specs.Promise.{KeepsMeaning}
-use Rattle.extract_call.specs.Below.{Below}
+use Rattle.extract_call.specs.inner.Below.{Below}
 use Rattle.extract_call.specs.CssLines.{IsKept, IsRefusedFor, IsXPathLong}
 use Rattle.extract_call.specs.Laws.{OneReading}
 use Rattle.json_lines.specs.Lines.{IsSmall}

@@ -8,12 +8,9 @@ use Rattle.css_selectors.specs.declared.selector.SelectorList.{SelectorList}
 use Rattle.css_parser.specs.Selecting.{Accepts, IsFault}
 use Rattle.css_printed.specs.Printed.{printed}
 use Rattle.css_printed.specs.Promise.{KeepsMeaning}
+use Rattle.xpath_lexer.specs.Places.{most_xpath}
 use Rattle.json_lines.specs.Lines.{css_text, reason_text}
 use Rattle.extract_call.specs.Answers.{Answer}
-
--- the most bytes of a printed XPath
-abbrev pub most_xpath : ℕ
-most_xpath = 1048576
 
 -- the printed text of a list keeps the list's meaning
 abbrev pub IsKept : Dialect → SelectorList → Type 0

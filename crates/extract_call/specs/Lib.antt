@@ -1,5 +1,4 @@
 pub mod Answers
-pub mod Below
 pub mod Bulk
 pub mod CssLines
 pub mod Laws
@@ -11,3 +10,4 @@ pub mod Plans
 pub mod Runs
 pub mod Tasks
 pub mod Words
+pub mod inner

@@ -1,7 +1,8 @@
 -- The forms that the program's words may have.
-use Rattle.std.specs.Prelude.{◌≡◌, ◌≢◌, ℕ, ◌+◌, ◌*◌, ◌-◌, ◌≤◌, ◌&&◌, Bool, true, nat_le, List, [], ◌∷◌, length, map, fold, Option, Some, None, option_map, codes, string_bytes, if◌then◌else◌}
+use Rattle.std.specs.Prelude.{◌≡◌, ◌≢◌, ℕ, ◌≤◌, ◌&&◌, true, nat_le, List, [], ◌∷◌, length, map, Option, Some, None, option_map, codes, string_bytes, if◌then◌else◌}
 use Rattle.std.specs.List.{list_all}
 use Rattle.std.specs.Str.{bytes_eq}
+use Rattle.text_base.specs.Text.{is_digit, digits_value}
 use Rattle.css_selectors.specs.declared.selector.Dialect.{Dialect}
 use Rattle.css_selectors.specs.declared.selector.Dialect.TheVariants.{Generic, Html}
 use Rattle.extract_call.specs.declared.words.Form.{Form}
@@ -22,14 +23,6 @@ command_of Other = None
 abbrev pub dialect_word : Dialect → List ℕ
 dialect_word Generic = codes "generic"
 dialect_word Html = codes "html"
-
--- an ASCII digit
-abbrev pub is_digit : ℕ → Bool
-is_digit c = nat_le 48 c && nat_le c 57
-
--- the number that the digits spell
-abbrev pub digits_value : List ℕ → ℕ
-digits_value word = fold (λ n c. 10 * n + (c - 48)) 0 word
 
 -- one to five digits that spell the number, which is from 1 to 20,000
 pub record IsCount (word : List ℕ) (n : ℕ) : Type 0 where

@@ -1,9 +1,10 @@
 //! Laws of the definitions that the contracts cite.
-ghost use Rattle.extract_call.specs.Below.{Below};
+ghost use Rattle.extract_call.specs.inner.Below.{Below};
 ghost use Rattle.extract_call.specs.Laws.{BulkLaw, OnePlan, ReadingLaw, SomePlan, WordsLaw};
 
 use css_parser::one_list_or_fault;
 use html_reader::one_page_reading;
+use io_edges::pieces_add_up;
 use query_chain::{a_value, one_value};
 use query_script::read_or_refused;
 
@@ -16,6 +17,7 @@ pub fn laws_below()
     one_page_reading();
     one_value();
     a_value();
+    pieces_add_up();
 }
 
 /// Each text is one selector list or is refused for one reason, and both only where the XPath of

@@ -99,6 +99,7 @@ fn write_each<P: Pages, W: Sink>(
         (sink_at (W.taken sink.old) (W.faults sink.old)) (sink_at (W.taken sink.new) (W.faults sink.new)) result }
     ensures other { result ≢ Status.Usage }
 {
+    laws_below();
     let mut refused = false;
     for name in names {
         match write_page(alloc, fields, ready, name.as_str(), pages, sink) {
@@ -131,6 +132,7 @@ pub fn write_pages<P: Pages, W: Sink>(
         (sink_at (W.taken sink.old) (W.faults sink.old)) (sink_at (W.taken sink.new) (W.faults sink.new)) result }
     ensures other { result ≢ Status.Usage }
 {
+    laws_below();
     match prepare_fields(alloc, fields.as_slice()) {
         Ok(ready) => write_each(alloc, fields, ready.as_slice(), names, pages, sink),
         Err(_) => Status::Memory,

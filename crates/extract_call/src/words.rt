@@ -1,8 +1,9 @@
 //! The forms that the program's words may have.
 ghost use Rattle.std.specs.Prelude.{◌≡◌, [], ◌∷◌, map, string_bytes};
-ghost use Rattle.extract_call.specs.Words.{dialect_of, is_digit, count_of, read, command_of};
+ghost use Rattle.extract_call.specs.Words.{dialect_of, count_of, read, command_of};
 
 use css_selectors::Dialect;
+use text_base::is_digit;
 
 /// What the words ask for.
 #[derive(Clone, Copy)]
@@ -31,12 +32,6 @@ fn dialect_of(word: &str) -> Option<Dialect>
     None
 }
 
-fn is_digit(byte: u8) -> bool
-    ensures { result ≡ is_digit byte }
-{
-    byte >= b'0' && byte <= b'9'
-}
-
 /// The number from 1 to 20,000 that one to five digits spell.
 fn count_of(word: &str) -> Option<u32>
     ensures { result ≡ count_of word.now }
@@ -53,7 +48,7 @@ fn count_of(word: &str) -> Option<u32>
         if !is_digit(*byte) {
             return None;
         }
-        value = 10 * value + (*byte - b'0') as u32;
+        value = value * 10 + (*byte - b'0') as u32;
     }
     if value < 1 {
         return None;

@@ -7,6 +7,7 @@ ghost use Rattle.extract_call.specs.Plans.{alone};
 ghost use Rattle.extract_call.specs.Runs.{PagesAt, sink_at, Counted, Run};
 
 use crate::answers::Line;
+use crate::laws::laws_below;
 use crate::status::Status;
 use io_edges::{Sink, write_whole};
 use text_base::NoMemory;
@@ -20,6 +21,7 @@ pub fn write_line<W: Sink>(line: Line, sink: &mut W) -> Result<bool, Status>
     ensures write_fault { IsErrOf result Status.WriteFault → Rose (W.faults sink.old) (W.faults sink.new) }
     ensures other { (result ≢ Err Status.Done) × (result ≢ Err Status.Refused) × (result ≢ Err Status.Usage) × (result ≢ Err Status.ReadFault) }
 {
+    laws_below();
     let refused = line.refused;
     let mut text = line.text;
     match text.push_str("\n") {
@@ -41,6 +43,7 @@ pub fn write_alone<W: Sink>(made: Result<Line, NoMemory>, sink: &mut W) -> Statu
     ensures made { result ≢ Status.Memory → IsOk made }
     ensures other { result ≢ Status.Usage }
 {
+    laws_below();
     let Ok(line) = made else {
         return Status::Memory;
     };

@@ -9,7 +9,7 @@ pub returns-in-Ok-clause-run : goal.returns-in-Ok-clause-run
 returns-in-Ok-clause-run g c = of_script c.laws_below.ensures c.args.dialect c.args.script.now (map string_bytes c.args.names.now) c.in-Ok.read.fields _ c.in-Ok.ensures.ok c.write_pages.ensures.run
 
 pub returns-in-Err-Memory-clause-run : goal.returns-in-Err-Memory-clause-run
-returns-in-Err-Memory-clause-run g c = λ plan is. nothing_run plan _ _
+returns-in-Err-Memory-clause-run g c = λ plan is. nothing_run c.laws_below.ensures.takings plan _ _
 
 pub returns-in-Err-clause-run : goal.returns-in-Err-clause-run
 returns-in-Err-clause-run g c =

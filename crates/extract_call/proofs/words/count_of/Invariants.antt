@@ -1,7 +1,7 @@
 use Rattle.std.proofs.Common.{◌≡◌, ◌≤◌, ◌<◌, ◌^◌, take, length}
 use Rattle.std.specs.List.{list_all}
 use Rattle.std.specs.Prelude.{true}
-use Rattle.extract_call.specs.Words.{is_digit, digits_value}
+use Rattle.text_base.specs.Text.{is_digit, digits_value}
 use Rattle.extract_call.proofs.words.count_of.Given as goal
 
 abbrev pub invariant-loop-byte : goal.invariant-loop-byte

@@ -6,7 +6,7 @@ use Rattle.extract_call.proofs.PageAnswers.{ok_at}
 use Rattle.extract_call.proofs.writing.write_alone.Goals as goal
 
 pub returns-in_default-clause-run : goal.returns-in_default-clause-run
-returns-in_default-clause-run g c = λ a e none. nothing_run (alone a) none _
+returns-in_default-clause-run g c = λ a e none. nothing_run c.laws_below.ensures.takings (alone a) none _
 
 pub returns-in_default-clause-counts : goal.returns-in_default-clause-counts
 returns-in_default-clause-counts g c = λ none. untouched none _ _ (λ z. cc)
@@ -14,19 +14,19 @@ returns-in_default-clause-counts g c = λ none. untouched none _ _ (λ z. cc)
 pub returns-then-refused-clause-run : goal.returns-then-refused-clause-run
 returns-then-refused-clause-run g c = λ a e none.
     let same = ok_at c.args.made c.in-Ok.line (λ line. answer_of line ≡ a) c.in-Ok.is e in
-    whole_run (answer_of c.in-Ok.line) a none _ _ _ same c.in-Ok-write_line.ensures.ok.1
+    whole_run c.laws_below.ensures.takings (answer_of c.in-Ok.line) a none _ _ _ same c.in-Ok-write_line.ensures.ok.1
     (λ z. absurd (cc)) (λ z. c.in-Ok-write_line.ensures.ok.0 ∙ c.if-refused.true) (λ z. cc) (λ z. cc) (λ z. cc)
 
 pub returns-else-refused-clause-run : goal.returns-else-refused-clause-run
 returns-else-refused-clause-run g c = λ a e none.
     let same = ok_at c.args.made c.in-Ok.line (λ line. answer_of line ≡ a) c.in-Ok.is e in
-    whole_run (answer_of c.in-Ok.line) a none _ _ _ same c.in-Ok-write_line.ensures.ok.1
+    whole_run c.laws_below.ensures.takings (answer_of c.in-Ok.line) a none _ _ _ same c.in-Ok-write_line.ensures.ok.1
     (λ z. c.in-Ok-write_line.ensures.ok.0 ∙ c.if-refused.false) (λ z. absurd (cc)) (λ z. cc) (λ z. cc) (λ z. cc)
 
 pub returns-in-Err-clause-run : goal.returns-in-Err-clause-run
 returns-in-Err-clause-run g c = λ a e none.
     let same = ok_at c.args.made c.in-Ok.line (λ line. answer_of line ≡ a) c.in-Ok.is e in
-    part_run (answer_of c.in-Ok.line) a none _ _ c.in-Err.status same c.in-Err.ensures.err
+    part_run c.laws_below.ensures.takings (answer_of c.in-Ok.line) a none _ _ c.in-Err.status same c.in-Err.ensures.err
     (λ z. c.in-Err.ensures.write_fault (cc)) (λ z. c.in-Err.ensures.other.0 (cc)) (λ z. c.in-Err.ensures.other.1 (cc)) (λ z. c.in-Err.ensures.other.2 (cc)) (λ z. c.in-Err.ensures.other.3 (cc))
 
 pub returns-in-Err-clause-counts : goal.returns-in-Err-clause-counts

@@ -1,6 +1,7 @@
--- For the contracts of private functions alone: what the laws of the crates below say.
+-- What the laws of the crates below say.
 use Rattle.std.specs.Prelude.{List, ℕ}
 use Rattle.css_parser.specs.Laws as selectors
+use Rattle.io_edges.specs.Laws as sinks
 use Rattle.html_reader.specs.PageLaws as pages
 use Rattle.query_script.specs.Laws as scripts
 use Rattle.query_chain.specs.Laws as fields
@@ -24,3 +25,5 @@ pub record Below : Type 0 where
   -- an ordered field has one value
   pub one_value : fields.OneValue
   pub some_value : fields.AValue
+  -- bytes that are taken in pieces are taken as a whole
+  pub takings : sinks.TakingLaw

@@ -1,0 +1,2 @@
+-- What private functions and proofs say. No contract of a public call cites it.
+pub mod Below
