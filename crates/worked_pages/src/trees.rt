@@ -35,7 +35,8 @@ fn rows(alloc: Global, tree: &VecTree) -> Result<String, NoMemory> {
     Ok(out)
 }
 
-const SHOP: &str = "<!DOCTYPE html>
+/// A page as shops have them.
+pub const SHOP: &str = "<!DOCTYPE html>
 <html lang=en>
 <head>
 <meta charset=\"utf-8\">

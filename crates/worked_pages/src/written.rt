@@ -1,4 +1,5 @@
 //! Canonical markup that is read back.
+use crate::trees::SHOP;
 use doc_model::{Tree, VecGrow};
 use html_reader::read_html;
 use markup_back::{canonical, read_back};
@@ -82,24 +83,6 @@ fn stays_as_it_is_written(rt: HostRuntime) -> Result<(), Fail> {
     }
     Ok(())
 }
-
-const SHOP: &str = "<!DOCTYPE html>
-<html lang=en>
-<head>
-<meta charset=\"utf-8\">
-<title>Shop &amp; more</title>
-<script>if (a < b) { run(\"</p>\"); }</script>
-</head>
-<body>
-<!-- list -->
-<svg viewBox=\"0 0 8 8\"><path d=\"M0 0\"/></svg>
-<ul class=\"goods wide\">
-<li class=item><a href=/p/1?x=1&y=2>One</a> <b>10&nbsp;EUR</b>
-<li class=item><a href=\"/p/2\">Two</a> <b>7&nbsp;EUR</b>
-</ul>
-</body>
-</html>
-";
 
 #[test]
 fn reads_a_shop_back(rt: HostRuntime) -> Result<(), Fail> {
