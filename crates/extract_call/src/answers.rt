@@ -1,6 +1,6 @@
 //! Lines with the truth whether they hold a refusal.
-ghost use Rattle.std.specs.Prelude.{◌≡◌, ◌≢◌, ◌++◌, IfOk, string_bytes, codes, false, true};
-ghost use Rattle.text_base.specs.Reasons.{selector_word, script_word};
+ghost use Rattle.std.specs.Prelude.{◌≡◌, ◌++◌, IfOk, string_bytes, codes, false, true};
+ghost use Rattle.text_base.specs.Reasons.{selector_word};
 ghost use Rattle.css_selectors.specs.declared.selector.SelectorList.{SelectorList};
 ghost use Rattle.css_parser.specs.Selecting.{Accepts};
 ghost use Rattle.query_script.specs.Fields.{IsScriptFault};

@@ -1,5 +1,5 @@
 //! The bulk page, and the line of it.
-ghost use Rattle.std.specs.Prelude.{◌≡◌, ◌≤◌, ◌+◌, ◌++◌, ◌<◌, ◌^◌, IfOk, IsOk, OnOk, string_bytes, decimal};
+ghost use Rattle.std.specs.Prelude.{◌≡◌, ◌≤◌, ◌+◌, ◌++◌, ◌<◌, IfOk, IsOk, OnOk, string_bytes, decimal};
 ghost use Rattle.extract_call.specs.Answers.{answer_of};
 ghost use Rattle.extract_call.specs.Bulk.{item_tag, link_of, bulk_item, bulk_text, bulk_script};
 ghost use Rattle.extract_call.specs.Laws.{HasQueries};

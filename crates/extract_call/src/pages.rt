@@ -1,11 +1,10 @@
 //! The pages of a run, one after the other.
-ghost use Rattle.std.specs.Prelude.{◌≡◌, ◌≢◌, ◌⊎◌, ◌≤◌, ℕ, [], List, Some, map, length, OnErr, IfOk, IsErrOf, Err, IfSome, string_bytes};
+ghost use Rattle.std.specs.Prelude.{◌≡◌, ◌≢◌, ◌⊎◌, ℕ, List, Some, map, OnErr, IfOk, IsErrOf, Err, IfSome, string_bytes};
 ghost use Rattle.std.specs.List.{AllByRecursion};
 ghost use Rattle.io_edges.specs.Counts.{Rose, Grows};
 ghost use Rattle.io_edges.specs.Pages.{page, Lacks};
-ghost use Rattle.io_edges.specs.Sink.{grown, TakesPart};
 ghost use Rattle.query_script.specs.Ordered.{IsOrdered};
-ghost use Rattle.extract_call.specs.Answers.{Answer, answer_of, line_bytes};
+ghost use Rattle.extract_call.specs.Answers.{Answer, answer_of};
 ghost use Rattle.extract_call.specs.OnePage.{TakesLine, TakesLinePart, status_of};
 ghost use Rattle.extract_call.specs.PageLines.{IsPageLine, IsValuesLine, MakesLines};
 ghost use Rattle.extract_call.specs.Plans.{over};

@@ -7,7 +7,7 @@ ghost use Rattle.extract_call.specs.CssLines.{IsKept};
 ghost use Rattle.extract_call.specs.Laws.{CanBeRun, HasQueries};
 ghost use Rattle.extract_call.specs.Plans.{ForPlan};
 ghost use Rattle.extract_call.specs.Runs.{PagesAt, pages_at, sink_at, Counted, Run};
-ghost use Rattle.extract_call.specs.Words.{Command, css, run, bulk, read, command_of};
+ghost use Rattle.extract_call.specs.Words.{css, run, bulk, read, command_of};
 
 use crate::answers::{css_answer, script_answer};
 use crate::bulk::bulk_answer;
