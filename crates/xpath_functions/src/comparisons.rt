@@ -11,7 +11,6 @@ ghost use Rattle.xpath_functions.specs.inner.Sets.{has_text};
 ghost use Rattle.xpath_functions.specs.inner.Texts.{chars_of};
 ghost use Rattle.xpath_parser.specs.Conversions as spec;
 ghost use Rattle.xpath_values.specs.Atoms as atoms;
-ghost use Rattle.xpath_values.specs.Compares as compares;
 ghost use Rattle.xpath_values.specs.declared.value.Compare.TheVariants as op;
 ghost use Rattle.xpath_values.specs.declared.value.Value.TheVariants.{Nodes};
 

@@ -6,7 +6,7 @@ ghost use Rattle.xpath_values.specs.Numbers as numbers;
 ghost use Rattle.xpath_parser.specs.Conversions.{rows_of};
 ghost use Rattle.xpath_parser.specs.Functions as functions;
 ghost use Rattle.xpath_parser.specs.Functions.{arg, first_name};
-ghost use Rattle.xpath_functions.specs.Rows.{AreWithin, IsWithin};
+ghost use Rattle.xpath_functions.specs.Rows.{AreWithin};
 
 use crate::ids::{rows_with_ids, words_of_value};
 use crate::numbers::counted;

@@ -1,5 +1,5 @@
 //! Sets of borrowed texts.
-ghost use Rattle.std.specs.Prelude.{◌≡◌, ℕ, List, ◌||◌, ◌&&◌, not, false, OnOk};
+ghost use Rattle.std.specs.Prelude.{◌≡◌, ℕ, List, ◌||◌, ◌&&◌, not, OnOk};
 ghost use Rattle.std.specs.Str.{chars, bytes_eq};
 ghost use Rattle.xpath_functions.specs.inner.Sets.{has_text};
 
