@@ -1,5 +1,5 @@
 //! Context rows of a step that add no row to those of another one.
-ghost use Rattle.std.specs.Prelude.{◌≡◌, ◌<◌, ◌++◌, ◌∷◌, ◌&&◌, not, [], length, true, IsTrue, IfOk, OnOk, if◌then◌else◌};
+ghost use Rattle.std.specs.Prelude.{◌≡◌, ◌<◌, ◌++◌, ◌∷◌, ◌&&◌, not, [], length, IsTrue, IfOk, OnOk, if◌then◌else◌};
 ghost use Rattle.doc_model.specs.Axes.{are_siblings};
 ghost use Rattle.doc_model.specs.Document as document;
 ghost use Rattle.doc_model.specs.Document.{below};

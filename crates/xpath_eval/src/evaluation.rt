@@ -1,14 +1,13 @@
 //! The value of an expression at a place. Only brackets nest, so only through them a function here leads to itself.
 ghost use Rattle.std.specs.Prelude.{◌≡◌, ◌<◌, ◌≤◌, length, map, take, IfOk};
-ghost use Rattle.std.specs.List.{list_any, list_all, All};
+ghost use Rattle.std.specs.List.{All};
 ghost use Rattle.doc_model.specs.Axes.{axis_list};
 ghost use Rattle.doc_model.specs.declared.Axis.TheVariants as axis;
 ghost use Rattle.xpath_parser.specs.declared.expression.Step.{out-Step};
 ghost use Rattle.xpath_parser.specs.Asking.{AsksOnly, OperandAsks, StartAsks, StepAsks};
-ghost use Rattle.xpath_parser.specs.Conversions as conversions;
 ghost use Rattle.xpath_parser.specs.Conversions.{rows_of};
 ghost use Rattle.xpath_parser.specs.Denote as spec;
-ghost use Rattle.xpath_functions.specs.Rows.{AreWithin, IsWithin};
+ghost use Rattle.xpath_functions.specs.Rows.{AreWithin};
 ghost use Rattle.xpath_eval.specs.inner.Places.{context};
 ghost use Rattle.doc_model.specs.RowLists.{AllBelow};
 ghost use Rattle.xpath_eval.specs.Rows.{AreRows};
