@@ -1,5 +1,5 @@
 //! Fields.
-ghost use Rattle.std.specs.Prelude.{◌≡◌, map, IfOk};
+ghost use Rattle.std.specs.Prelude.{map, IfOk};
 ghost use Rattle.std.specs.List.{AllByRecursion};
 ghost use Rattle.query_script.specs.Fields.{IsChain, IsField, AreFields};
 ghost use Rattle.query_script.specs.Ordered.{IsOrdered, IsOrderedChain};

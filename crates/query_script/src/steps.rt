@@ -1,5 +1,5 @@
 //! One step as it is written.
-ghost use Rattle.std.specs.Prelude.{◌≡◌, ◌≢◌, ◌<◌, false, option_map, string_bytes, IfOk, slice_index};
+ghost use Rattle.std.specs.Prelude.{◌≡◌, ◌≢◌, ◌<◌, false, option_map, string_bytes, IfOk};
 ghost use Rattle.query_script.specs.Cuts.{is_quote};
 ghost use Rattle.query_script.specs.inner.Reader.{unquoted, read_kind, read_string, read_step, written_of};
 
