@@ -1,5 +1,5 @@
 //! The texts that a search finds.
-ghost use Rattle.std.specs.Prelude.{◌≡◌, ◌≢◌, ◌+◌, ◌<◌, [], ◌∷◌, OnOk, IsErrOf};
+ghost use Rattle.std.specs.Prelude.{◌≢◌, ◌+◌, ◌<◌, [], ◌∷◌, OnOk, IsErrOf};
 ghost use Rattle.std.specs.Str.{chars};
 ghost use Rattle.query_chain.specs.inner.Found.{IsNew, Adds};
 

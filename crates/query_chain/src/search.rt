@@ -1,5 +1,5 @@
 //! The matches of a pattern in a text, one after the other.
-ghost use Rattle.std.specs.Prelude.{◌≡◌, ◌≢◌, ◌≤◌, ◌<◌, ◌+◌, ⊤, ℕ, true, false, None, Some, [], map, length, slice_range, flat_map, IfOk, OnOk, MatchOption, IsErrOf};
+ghost use Rattle.std.specs.Prelude.{◌≡◌, ◌≢◌, ◌≤◌, ◌<◌, ◌+◌, ⊤, true, None, Some, [], map, length, slice_range, flat_map, IfOk, OnOk, MatchOption, IsErrOf};
 ghost use Rattle.std.specs.Str.{chars};
 ghost use Rattle.std.specs.Option.{option_map_or};
 ghost use Rattle.regex.specs.Patterns.{Match, find_str};
