@@ -1,5 +1,5 @@
 -- What an XPath text reads as.
-use Rattle.std.specs.Prelude.{◌≡◌, ℕ, ◌≤◌, true, false, List, [], length}
+use Rattle.std.specs.Prelude.{◌≡◌, ◌≤◌, true, false, List, [], length}
 use Rattle.std.specs.List.{list_any}
 use Rattle.test_registry.specs.Names.{Known}
 use Rattle.xpath_lexer.specs.Places.{most_xpath}
@@ -8,10 +8,6 @@ use Rattle.xpath_parser.specs.declared.expression.Expr.{Expr}
 use Rattle.xpath_parser.specs.Terms.{terms_over, is_refused, IsShallow}
 use Rattle.xpath_parser.specs.Grammar.{ReadsWhole}
 use Rattle.xpath_parser.specs.Shapes.{is_well_typed}
-
--- the most bytes of an XPath text
-abbrev pub most_bytes : ℕ
-most_bytes = most_xpath
 
 -- The text reads as the expression where these tests are stored, and is refused for no reason: it is not too long, tokens spell it, not too many brackets are
 -- open, the grammar reads its terms, none of them is refused, and the expression is well typed.
