@@ -1,11 +1,11 @@
 -- Where an attribute or a text may come.
 use Rattle.std.proofs.Common.{◌≡◌, ℕ, zero, suc, ◌-◌, ◌<◌, List, [], ◌∷◌, ◌++◌, length, Bool, true, false, ◌&&◌, cond, sym, refl, ◌∙◌, ap, subst, arith, eqb, lt-ltb, inl, inr}
 use Rattle.std.specs.Prelude.{◌≢◌}
-use Rattle.std.proofs.lemmas.Bool.{and_parts, and_from, not-true, false_from_ne_true, both_ways, not_from_false, or_left, or_right, eq-eqb, cases_lt}
+use Rattle.std.proofs.lemmas.Bool.{and_parts, and_from, not-true, false_from_ne_true, both_ways, not_from_false, or_left, eq-eqb, cases_lt}
 use Rattle.std.proofs.lemmas.List.{length_push}
 use Rattle.doc_model.specs.declared.Kind.TheVariants.{Element, Attribute, Text}
-use Rattle.doc_model.specs.Document.{Row, Document, row, is_attribute, is_attribute_kind, is_text_kind, IsLastChildBefore, IsDocument}
-use Rattle.doc_model.specs.Growing.{Growing, innermost, element_row, attr_row, with_element, with_attr, AwaitsAttr, AwaitsText, IsGrowing}
+use Rattle.doc_model.specs.Document.{Row, Document, row, is_attribute, is_text_kind, IsLastChildBefore, IsDocument}
+use Rattle.doc_model.specs.Growing.{Growing, innermost, element_row, with_element, AwaitsAttr, AwaitsText, IsGrowing}
 use Rattle.doc_model.specs.inner.LastChild.{is_child, ends_in_text}
 use Rattle.doc_model.proofs.Below.{small}
 use Rattle.doc_model.proofs.Grown.{pushed_same, pushed_row}
@@ -51,27 +51,6 @@ awaits_first_attr g name wanted w =
             let here : length g.rows ≡ k = omega (arith, l, length_push g.rows r) in
             let kind : Element ≡ Attribute = sym (ap (λ (s : Row). s.kind) (pushed_row g.rows r)) ∙ subst (λ v. (row doc v).kind ≡ Attribute) (sym here) a in
             cc
-            )
-      ];
-    }
-
--- after an attribute one of another name may come
-pub awaits_next_attr : (g : Growing) (name value wanted : List ℕ) → IsGrowing g → AwaitsAttr g wanted → wanted ≢ name → AwaitsAttr (with_attr g name value) wanted
-awaits_next_attr g name value wanted w a differs =
-    let p = innermost g.open_rows in
-    let r = attr_row p name value in
-    let doc = g.rows ++ r ∷ [] in
-    let last : length g.rows ≡ length doc - 1 = omega (arith, length_push g.rows r) in
-    let here : row doc (length doc - 1) ≡ r = subst (λ v. row doc v ≡ r) last (pushed_row g.rows r) in
-    record {
-      opened = a.opened;
-      follows = or_right (eqb p (length doc - 1)) (is_attribute doc (length doc - 1) && eqb (row doc (length doc - 1)).parent p)
-          (and_from _ _ (ap (λ (s : Row). is_attribute_kind s.kind) here) (eq-eqb _ _ (ap (λ (s : Row). s.parent) here)));
-      new = λ k l b q n. elim (cases_lt k (length g.rows)) [
-        | inl h ↦ (let same = pushed_same g.rows r k h in a.new k h (sym (ap (λ (s : Row). s.kind) same) ∙ b) (sym (ap (λ (s : Row). s.parent) same) ∙ q) (sym (ap (λ (s : Row). s.name) same) ∙ n))
-        | inr h ↦ (
-            let at : length g.rows ≡ k = omega (arith, l, length_push g.rows r) in
-            differs (sym (sym (ap (λ (s : Row). s.name) (pushed_row g.rows r)) ∙ subst (λ v. (row doc v).name ≡ wanted) (sym at) n))
             )
       ];
     }

@@ -78,17 +78,7 @@ descendant_or_self_walk doc x e d end =
       over = λ h. cc;
     }
 
--- ---- the row and its parent
-
-pub self_walk : (doc : Document) (x : ℕ) → x < length doc → IsWalk doc axis.OwnSelf x x (x + 1) false
-self_walk doc x h = record {
-  starts = omega arith;
-  ends = omega arith;
-  before = λ y l. ne_eqb y x (λ s. omega arith);
-  after = λ y l k. ne_eqb y x (λ s. omega arith);
-  within = λ y l k. eq-eqb y x (omega arith);
-  over = λ h. cc;
-}
+-- ---- the parent
 
 pub parent_walk : (doc : Document) (x p : ℕ) → IsDocument doc → 0 < x → x < length doc → p ≡ (row doc x).parent → IsWalk doc axis.Parent x p (p + 1) false
 parent_walk doc x p d some h e = let up : (row doc x).parent < x = small doc d x some in record {
@@ -150,22 +140,6 @@ following_walk doc x e d end =
       over = λ h. cc;
     }
 
-pub preceding_walk : (doc : Document) (x : ℕ) → x < length doc → IsWalk doc axis.Preceding x 0 x false
-preceding_walk doc x h = record {
-  starts = omega arith;
-  ends = omega arith;
-  before = λ y l. absurd (omega arith);
-  after = λ y l k. and_left _ _ (le-ltb y x l);
-  within = λ y l k. true_and _ _ (lt-ltb y x k) ∙ swap (not (below doc y x)) (not (is_attribute doc y));
-  over = λ h. cc;
-}
-  where
-    swap : (a b : Bool) → (a && b) ≡ (b && a)
-    swap true true = refl
-    swap true false = refl
-    swap false true = refl
-    swap false false = refl
-
 -- ---- siblings
 
 -- two rows that may be siblings are so where they have one parent
@@ -212,12 +186,6 @@ preceding_sibling_walk doc x p d some h a s =
       within = λ y l k. and_true _ _ (lt-ltb y x k) ∙ siblings doc x y some (omega arith) a;
       over = λ n y z l k b. and_left _ _ (apart doc x z (λ o t. let deep : y ≤ (row doc z).parent = parent_from doc y z m b in omega arith));
     }
-
-pub no_siblings_root : (doc : Document) (y : ℕ) → are_siblings doc 0 y ≡ false
-no_siblings_root doc y = refl
-
-pub no_siblings_attribute : (doc : Document) (x y : ℕ) → is_attribute doc x ≡ true → are_siblings doc x y ≡ false
-no_siblings_attribute doc x y a = and_right _ _ (and_right _ _ (and_left _ _ (not_from_true _ a)))
 
 -- ---- as the code says it
 

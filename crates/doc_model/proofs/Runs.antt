@@ -105,9 +105,6 @@ from_both true e p q = refl
 from_both false true p q = refl
 from_both false false p q = refl
 
-pub start_merging : (a b : List ℕ) → Merged a b [] a b
-start_merging a b = record { rows = λ y. refl; order = λ n r q. (0, omega arith, r, q) }
-
 pub take_left : (a b out ra rb : List ℕ) (x y : ℕ) → x < y → Merged a b out (x ∷ ra) (y ∷ rb) → Merged a b (out ++ x ∷ []) ra (y ∷ rb)
 take_left a b out ra rb x y less m = record {
   rows = λ z. ap (λ o. o || (has z ra || has z (y ∷ rb))) (has_append z out (x ∷ [])) ∙ from_left (has z out) (eqb x z) (has z ra) (has z (y ∷ rb)) ∙ m.rows z;
