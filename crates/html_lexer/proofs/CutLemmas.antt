@@ -248,21 +248,6 @@ module _ (text : List ℕ) (utf8 : IsUtf8 text) where
       by_start (Comment a b to) l s = tt
       by_start (Doctype to) l s = tt
 
-  start_parts : (i : ℕ) (parts : TokenAt) (from to : ℕ) (name attrs : List ℕ) (slash : Bool) → start_tok from to name attrs slash ≡ tok_at text i parts → IsStartOf i parts → TagFacts text name attrs slash to
-  start_parts i (Start a b c d) from to name attrs slash e h =
-      let n : slice_range text (i + 1) a ≡ name = cc in
-      let m : slice_range text a b ≡ attrs = cc in
-      let s : d ≡ slash = cc in
-      let z : c ≡ to = cc in
-      subst (λ x. TagFacts text x attrs slash to) n (subst (λ x. TagFacts text (slice_range text (i + 1) a) x slash to) m (subst (λ x. TagFacts text (slice_range text (i + 1) a) (slice_range text a b) x to) s (subst (TagFacts text (slice_range text (i + 1) a) (slice_range text a b) d) z h)))
-  start_parts i (End a b) from to name attrs slash e h = cc
-  start_parts i (Text a b) from to name attrs slash e h = cc
-  start_parts i (Comment a b c) from to name attrs slash e h = cc
-  start_parts i (Doctype a) from to name attrs slash e h = cc
-
-  pub start_facts : (previous : List ℕ) (i from to : ℕ) (name attrs : List ℕ) (slash : Bool) → Begins text previous i (start_tok from to name attrs slash) → TagFacts text name attrs slash to
-  start_facts previous i from to name attrs slash h = start_parts i h.0 from to name attrs slash h.2 (start_of_step previous i h.0 h.1)
-
   -- where a `<` and a slash stand, only an end tag begins
   not_letter : (a b : ℕ) → ((a == 60) && is_letter b) ≡ true → b ≡ 47 → ⊥
   not_letter a b h e = grind (arith, nat_tests)

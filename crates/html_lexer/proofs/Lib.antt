@@ -11,4 +11,3 @@ pub mod SliceLemmas
 pub mod StepLemmas
 pub mod TextLemmas
 pub mod WrittenLemmas
-mod Worked
