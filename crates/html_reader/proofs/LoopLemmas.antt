@@ -2,6 +2,7 @@
 use Rattle.std.proofs.Common.{◌≡◌, ℕ, ◌+◌, ◌*◌, ◌<◌, ◌≤◌, ◌^◌, ◌⊎◌, inl, inr, List, [], ◌∷◌, ◌++◌, length, sym, refl, ◌∙◌, ap, subst, arith, rules, Some, None, Ok, Err}
 use Rattle.std.specs.Prelude.{Result, IfOk, IfErr}
 use Rattle.std.specs.Str.{IsUtf8}
+use Rattle.text_base.specs.Limits.{most_page}
 use Rattle.text_base.specs.declared.reasons.PageFault.{PageFault}
 use Rattle.doc_model.specs.Document.{Document}
 use Rattle.html_lexer.specs.declared.steps.Step.TheVariants.{Fails}
@@ -92,7 +93,7 @@ few_rows page before i (text_tok from to raw refs) t h means = subst (λ u. i + 
 few_rows page before i (comment_tok from to body) t h means = subst (λ u. i + most_rows u + 1 + 4 * i ≤ i + 4 * to) (sym means) (omega (arith, h))
 few_rows page before i (doctype_tok from to) t h means = subst (λ u. i + most_rows u + 1 + 4 * i ≤ i + 4 * to) (sym means) (omega (arith, h))
 
-pub has_room : (page : List ℕ) (r : Reading) (before : List ℕ) (s : State) (x : Lexed) (t : Tok) → IsReading page r before s → Begins r.text r.name r.at x → Means before x t → length page ≤ 4194304 → size s + most_rows t + 1 < 2 ^ 32
+pub has_room : (page : List ℕ) (r : Reading) (before : List ℕ) (s : State) (x : Lexed) (t : Tok) → IsReading page r before s → Begins r.text r.name r.at x → Means before x t → length page ≤ most_page → size s + most_rows t + 1 < 2 ^ 32
 has_room page r before s x t h begins means short =
     let b = next_begins page r before s h x begins in
     omega (arith, h.room, few_rows page before r.at x t (lies page (last_name [] h.spelled.read) r.at x b) means, (moves page (last_name [] h.spelled.read) r.at x b).1, short)

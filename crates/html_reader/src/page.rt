@@ -1,5 +1,6 @@
 //! Reads a page.
 ghost use Rattle.std.specs.Prelude.{◌≡◌, ◌≤◌, [], ◌⊎◌, length, codes, IfOk, IfErr};
+ghost use Rattle.text_base.specs.Limits.{most_page};
 ghost use Rattle.doc_model.specs.Growing.{fresh};
 ghost use Rattle.std.specs.Str.{str_eq_ignore_ascii_case};
 ghost use Rattle.html_reader.specs.inner.Taking.{LeadsTo, size};
@@ -54,7 +55,7 @@ fn read_tokens<'p, G: Grow<'p> + Drop>(
     text: &'p str,
     mut reader: Reader<'p, G>,
 ) -> Result<G::Done, PageFault>
-    requires short { length text.now ≤ 4194304 }
+    requires short { length text.now ≤ most_page }
     requires made { IsMade text.now reader.rooted.made }
     requires led { LeadsTo [] (the_state reader.tags.items reader.rooted (G.growing reader.grow) (owned_bytes reader.waits)) }
     requires size { size (the_state reader.tags.items reader.rooted (G.growing reader.grow) (owned_bytes reader.waits)) ≤ 2 }
@@ -83,7 +84,7 @@ fn read_tokens<'p, G: Grow<'p> + Drop>(
     }
 }
 
-/// The tree of a page of 4,194,304 bytes at most, or why the page is refused, and at which byte the token begins that
+/// The tree of a page of `PAGE_LIMIT` bytes at most, or why the page is refused, and at which byte the token begins that
 /// is refused. Want of memory has the place 0.
 pub fn read_html<'p, G: Grow<'p> + Drop>(
     alloc: Global,
@@ -91,7 +92,7 @@ pub fn read_html<'p, G: Grow<'p> + Drop>(
     grow: G,
 ) -> Result<G::Done, PageFault>
     requires fresh { G.growing grow ≡ fresh }
-    requires short { length text.now ≤ 4194304 }
+    requires short { length text.now ≤ most_page }
     ensures ok { IfOk result (λ done. BuildsPage text.now (G.Done.document done)) }
     ensures fault { IfErr result (λ fault. IsMemory fault ⊎ IsPageFault text.now fault.reason fault.at) }
 {

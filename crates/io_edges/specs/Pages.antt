@@ -1,10 +1,7 @@
 -- What pages tell: a finite map from names to bytes, as a list in which the first of a name counts.
 use Rattle.std.specs.Prelude.{◌≡◌, ℕ, ◌<◌, ◌++◌, List, [], ◌∷◌, Option, Some, None, if◌then◌else◌, IfSome, MatchOption, length}
 use Rattle.std.specs.Str.{bytes_eq}
-
--- the most bytes of a page
-abbrev pub most_page : ℕ
-most_page = 4194304
+pub use Rattle.text_base.specs.Limits.{most_page}
 
 -- the bytes of the page of this name
 abbrev pub page : List (List ℕ × List ℕ) → List ℕ → Option (List ℕ)

@@ -22,10 +22,11 @@ pub use mem_sink::MemSink;
 pub use null_sink::NullSink;
 pub use page_file::PageFile;
 pub use pages::{BeginFault, Failed, Pages};
-pub use read::{PAGE_LIMIT, ReadEnd, read_page};
+pub use read::{ReadEnd, read_page};
 pub use sink::Sink;
 pub use stdout_sink::StdoutSink;
 pub use sure_pages::SurePages;
+pub use text_base::PAGE_LIMIT;
 pub use write::{WriteFault, write_whole};
 
 /// How often a call of the system is tried that a signal ended before any byte was moved.

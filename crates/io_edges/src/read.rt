@@ -1,13 +1,12 @@
 ghost use Rattle.std.specs.Prelude.{◌≡◌, ◌⊎◌, ◌≤◌, IfOk, OnOk, OnErr, IsErr, IsErrOf, length};
 ghost use Rattle.io_edges.specs.Counts.{Rose, Grows};
-ghost use Rattle.io_edges.specs.Pages.{most_page, Lacks, Exceeds, Has, IsTooLong, IsDone, LeavesEnd};
+ghost use Rattle.text_base.specs.Limits.{most_page};
+ghost use Rattle.io_edges.specs.Pages.{Lacks, Exceeds, Has, IsTooLong, IsDone, LeavesEnd};
 ghost use Rattle.io_edges.specs.declared.read.ReadEnd.TheVariants.{Memory};
 
 use crate::{BeginFault, Failed, Pages};
 use std::alloc::{AllocError, Global};
-
-/// The most bytes that a page may have.
-pub const PAGE_LIMIT: usize = 4_194_304;
+use text_base::PAGE_LIMIT;
 
 /// How many bytes of a page are asked for at a time.
 const BUFFER_SIZE: usize = 8_192;

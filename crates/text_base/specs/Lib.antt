@@ -1,5 +1,6 @@
 pub mod Decoding
 pub mod Kinds
+pub mod Limits
 pub mod Names
 pub mod Parts
 pub mod Positions

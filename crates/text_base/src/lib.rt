@@ -8,6 +8,7 @@ mod decoding;
 mod finding;
 mod kinds;
 mod letters;
+mod limits;
 mod memory;
 mod reasons;
 mod txt;
@@ -22,6 +23,7 @@ pub use kinds::{
     is_white, run_end,
 };
 pub use letters::{is_space4, is_space5, lower_ascii};
+pub use limits::PAGE_LIMIT;
 pub use memory::NoMemory;
 pub use reasons::{PageFault, PageReason, ScriptFault, SelectorFault, XPathFault};
 pub use sqlite_items::{Boxed, Items as Seq};
