@@ -1,17 +1,13 @@
 -- Names of elements, and of those whose content is raw text, in any letter case (HTML, section 13.2.5, "RAWTEXT",
 -- "RCDATA" and "script data" states).
-use Rattle.std.specs.Prelude.{ℕ, ◌+◌, ◌==◌, ◌&&◌, ◌||◌, nat_le, Bool, List, [], ◌∷◌, length, map, slice_index, slice_range, codes}
+use Rattle.std.specs.Prelude.{ℕ, ◌+◌, ◌==◌, ◌&&◌, ◌||◌, nat_le, Bool, List, [], ◌∷◌, length, slice_index, slice_range, codes}
 use Rattle.std.specs.List.{list_any}
 use Rattle.std.specs.Str.{str_eq_ignore_ascii_case}
 use Rattle.html_lexer.specs.Kinds.{is_gap}
-use denote.Ref.{Bor}
+pub use Rattle.text_base.specs.Names.{texts}
 
 abbrev pub is_one_of : List (List ℕ) → List ℕ → Bool
 is_one_of names name = list_any (λ n. str_eq_ignore_ascii_case n name) names
-
--- texts without where they lie in memory
-abbrev pub texts : List (Bor (List ℕ)) → List (List ℕ)
-texts names = map (λ (n : Bor (List ℕ)). n.now) names
 
 -- elements with no content and no end tag (HTML, section 13.1.2)
 unfoldable pub void_names : List (List ℕ)

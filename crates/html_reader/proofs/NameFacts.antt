@@ -5,7 +5,8 @@ use Rattle.std.specs.List.{list_all}
 use Rattle.std.specs.Str.{bytes_eq}
 use Rattle.std.proofs.lemmas.Slice.Eq.{bytes_eq-Decides}
 use Rattle.html_lexer.specs.Names.{is_raw, literal_names, escapable_names}
-use Rattle.html_reader.specs.Tables.{is_one_of, is_void, void_names}
+use Rattle.text_base.specs.Strings.{is_among}
+use Rattle.html_reader.specs.Tables.{is_void, void_names}
 use Rattle.html_reader.specs.Contents.{takes_newline, newline_names}
 
 and_parts : (a b : Bool) → (a && b) ≡ true → (a ≡ true) × (b ≡ true)
@@ -13,13 +14,13 @@ and_parts true b h = (refl, h)
 and_parts false b h = cc
 
 -- a test that all names of a table pass is passed by each
-pub each_passes : (p : List ℕ → Bool) (names : List (List ℕ)) (name : List ℕ) → list_all p names ≡ true → is_one_of names name ≡ true → p name ≡ true
+pub each_passes : (p : List ℕ → Bool) (names : List (List ℕ)) (name : List ℕ) → list_all p names ≡ true → is_among name names ≡ true → p name ≡ true
 each_passes p [] name all h = cc
 each_passes p (n ∷ names) name all h =
     let two = and_parts (p n) (list_all p names) all in
     by_first (bytes_eq n name) refl two.0 h (λ k. each_passes p names name two.1 k)
   where
-    by_first : (b : Bool) → bytes_eq n name ≡ b → p n ≡ true → (b || is_one_of names name) ≡ true → (is_one_of names name ≡ true → p name ≡ true) → p name ≡ true
+    by_first : (b : Bool) → bytes_eq n name ≡ b → p n ≡ true → (b || is_among name names) ≡ true → (is_among name names ≡ true → p name ≡ true) → p name ≡ true
     by_first true is ok k later = subst (λ x. p x ≡ true) ((bytes_eq-Decides n name).0 is) ok
     by_first false is ok k later = later k
 

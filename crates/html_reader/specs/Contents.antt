@@ -1,10 +1,10 @@
 -- What the tree takes of a token as it is written: names in ASCII lower case, the attributes that are kept, contents.
 use Rattle.std.specs.Prelude.{ℕ, ◌==◌, Bool, List, [], ◌∷◌, if◌then◌else◌}
 use Rattle.std.specs.Str.{bytes_eq, str_to_ascii_lowercase}
+use Rattle.text_base.specs.Strings.{is_among}
 unfoldable pub use Rattle.html_lexer.specs.Names.{newline_names}
 use Rattle.char_refs.specs.References.{decoded}
 use Rattle.html_reader.specs.Tokens.{Attr}
-use Rattle.html_reader.specs.Tables.{is_one_of}
 
 -- the attributes of other names
 abbrev pub without : List ℕ → List Attr → List Attr
@@ -20,7 +20,7 @@ kept (p ∷ written) =
 
 -- a start tag of this name takes a first newline; a token that is no start tag has the name []
 abbrev pub takes_newline : List ℕ → Bool
-takes_newline name = is_one_of newline_names (str_to_ascii_lowercase name)
+takes_newline name = is_among (str_to_ascii_lowercase name) newline_names
 
 abbrev pub without_newline : List ℕ → List ℕ
 without_newline [] = []

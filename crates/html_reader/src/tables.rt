@@ -1,28 +1,17 @@
 //! The tables by element name.
 ghost use Rattle.std.specs.Prelude.{◌≡◌, map, not, true};
-ghost use Rattle.html_reader.specs.Tables.{is_one_of, is_void, is_foreign, may_omit_end, start_ends, head_names, is_listed, are_apart};
-ghost use Rattle.html_lexer.specs.Names.{texts};
+ghost use Rattle.text_base.specs.Strings.{is_among};
+ghost use Rattle.html_reader.specs.Tables.{is_void, is_foreign, may_omit_end, start_ends, head_names, is_listed, are_apart};
 ghost use Rattle.html_reader.specs.inner.Views.{ending_of};
 
 use html_lexer::void_names;
-use text_base::is_same;
-
-fn is_one_of(names: &[&str], name: &str) -> bool
-    ensures { result ≡ is_one_of (texts names.now) name.now }
-{
-    for entry in names {
-        if is_same(entry, name) {
-            return true;
-        }
-    }
-    false
-}
+use text_base::is_among;
 
 #[tactic(auto, unfolding(crate::specs::Tables::void_names))]
 pub fn is_void(name: &str) -> bool
     ensures { result ≡ is_void name.now }
 {
-    name.len() >= 2 && name.len() <= 6 && is_one_of(void_names(), name)
+    name.len() >= 2 && name.len() <= 6 && is_among(void_names(), name)
 }
 
 static FOREIGN: [&str; 2] = ["svg", "math"];
@@ -144,21 +133,21 @@ static ENDINGS: [Ending; 11] = [
 pub fn is_foreign(name: &str) -> bool
     ensures { result ≡ is_foreign name.now }
 {
-    is_one_of(&FOREIGN, name)
+    is_among(&FOREIGN, name)
 }
 
 #[tactic(auto, unfolding(crate::specs::Tables::omitting_names))]
 pub fn may_omit_end(name: &str) -> bool
     ensures { result ≡ may_omit_end name.now }
 {
-    is_one_of(&OMITTING, name)
+    is_among(&OMITTING, name)
 }
 
 #[tactic(auto, unfolding(crate::specs::Tables::head_names))]
 fn ends_head(name: &str) -> bool
-    ensures { result ≡ not (is_one_of head_names name.now) }
+    ensures { result ≡ not (is_among name.now head_names) }
 {
-    !is_one_of(&HEAD, name)
+    !is_among(&HEAD, name)
 }
 
 /// Whether the start tag is listed for the open element, which no two of the entries have.
@@ -167,8 +156,8 @@ fn is_listed(endings: &[Ending], element: &str, name: &str) -> bool
     ensures { result ≡ is_listed (map ending_of endings.now) element.now name.now }
 {
     for ending in endings {
-        if is_one_of(ending.opens, element) {
-            return is_one_of(ending.tags, name);
+        if is_among(ending.opens, element) {
+            return is_among(ending.tags, name);
         }
     }
     false

@@ -4,6 +4,7 @@ use Rattle.std.specs.Prelude.{not, codes}
 use Rattle.std.specs.List.{list_all, list_any}
 use Rattle.std.specs.Str.{chars, bytes_eq, IsUtf8, str_to_ascii_lowercase, str_eq_ignore_ascii_case}
 use Rattle.std.proofs.lemmas.Str.{encodes-append}
+use Rattle.text_base.specs.Strings.{is_among}
 use Rattle.html_lexer.specs.Names.{is_escapable, literal_names, escapable_names}
 use Rattle.html_reader.specs.Tables.{is_void, void_names}
 use Rattle.html_reader.specs.Contents.{takes_newline, newline_names}
@@ -32,7 +33,7 @@ lit_is name low = λ j. list_any (λ n. bytes_eq n (low j)) literal_names
 esc_names : List (List ℕ)
 esc_names = codes "title" ∷ codes "textarea" ∷ []
 
-esc_is : (name : List ℕ) → str_to_ascii_lowercase name ≡ name → is_escapable name ≡ out.is_one_of esc_names name
+esc_is : (name : List ℕ) → str_to_ascii_lowercase name ≡ name → is_escapable name ≡ is_among name esc_names
 unfolding escapable_names esc_names
 esc_is name low = λ j. list_any (λ n. bytes_eq n (low j)) escapable_names
 

@@ -8,8 +8,9 @@ use Rattle.std.proofs.lemmas.Bool.Decides.{same_from_decides, Decides-like, Deci
 use Rattle.std.proofs.lemmas.Slice.Eq.{bytes_eq-Decides}
 use Rattle.std.proofs.lemmas.Str.{chars-IsAscii, encodes-IsAscii, encodes-chars, inside_one, encode_ascii, length-encode, len_utf8_bounds}
 use Rattle.std.proofs.lemmas.Str.Ascii.{IsAscii-from_all}
+use Rattle.text_base.specs.Strings.{is_among}
 use Rattle.markup_out.specs.Markup.{begins_newline}
-use Rattle.markup_out.specs.Names.{is_one_of, void_names, literal_names, newline_names, is_void, is_raw, takes_newline}
+use Rattle.markup_out.specs.Names.{void_names, literal_names, newline_names, is_void, is_raw, takes_newline}
 
 abbrev pub is_ascii : List ℕ → Bool
 is_ascii name = list_all (λ c. ltb c 128) name
@@ -28,11 +29,11 @@ name_same name bytes a u =
     (λ e. sym (chars-IsAscii name a) ∙ ap chars e)
     (bytes_eq-Decides name (chars bytes)))
 
-one_of_same : (names : List (List ℕ)) (bytes : List ℕ) → list_all is_ascii names ≡ true → IsUtf8 bytes → is_one_of names bytes ≡ is_one_of names (chars bytes)
+one_of_same : (names : List (List ℕ)) (bytes : List ℕ) → list_all is_ascii names ≡ true → IsUtf8 bytes → is_among bytes names ≡ is_among (chars bytes) names
 one_of_same [] bytes h u = refl
 one_of_same (name ∷ names) bytes h u =
     let two = and_parts _ _ h in
-    ap (λ b. b || is_one_of names bytes) (name_same name bytes (IsAscii-from_all name (all_small name two.0)) u)
+    ap (λ b. b || is_among bytes names) (name_same name bytes (IsAscii-from_all name (all_small name two.0)) u)
     ∙ ap (λ b. bytes_eq name (chars bytes) || b) (one_of_same names bytes two.1 u)
 
 pub void_same : (bytes : List ℕ) → IsUtf8 bytes → is_void bytes ≡ is_void (chars bytes)

@@ -1,7 +1,12 @@
 -- The bytes of names in XPath texts, and tables of names.
-use Rattle.std.specs.Prelude.{ℕ, Bool, ◌||◌, ◌==◌, nat_le, if◌then◌else◌, List, [], ◌∷◌, Option, Some, None}
+use Rattle.std.specs.Prelude.{ℕ, Bool, ◌||◌, ◌==◌, nat_le, if◌then◌else◌, List, [], ◌∷◌, map, Option, Some, None}
 use Rattle.std.specs.Str.{bytes_eq}
 use Rattle.text_base.specs.Text.{is_digit, is_letter}
+use denote.Ref.{Bor}
+
+-- texts without where they lie in memory
+abbrev pub texts : List (Bor (List ℕ)) → List (List ℕ)
+texts names = map (λ (n : Bor (List ℕ)). n.now) names
 
 -- what a name stands for in a table of names: the first of that name
 abbrev pub named_in : {A : Type 0} → List (List ℕ × A) → List ℕ → Option A

@@ -10,6 +10,7 @@ mod kinds;
 mod letters;
 mod limits;
 mod memory;
+mod names;
 mod reasons;
 mod txt;
 mod words;
@@ -25,6 +26,7 @@ pub use kinds::{
 pub use letters::{is_space4, is_space5, lower_ascii};
 pub use limits::PAGE_LIMIT;
 pub use memory::NoMemory;
+pub use names::is_among;
 pub use reasons::{PageFault, PageReason, ScriptFault, SelectorFault, XPathFault};
 pub use sqlite_items::{Boxed, Items as Seq};
 pub use txt::Txt;

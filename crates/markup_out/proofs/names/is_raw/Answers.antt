@@ -1,7 +1,7 @@
 use Rattle.std.proofs.Common.{◌∙◌, ap}
-use Rattle.markup_out.specs.Names.{is_one_of}
+use Rattle.text_base.specs.Strings.{is_among}
 use Rattle.markup_out.proofs.NameLemmas.{raw_same}
 use Rattle.markup_out.proofs.names.is_raw.Goals as goal
 
 pub returns : goal.returns
-returns c = c.is_one_of.ensures ∙ ap (λ ns. is_one_of ns c.args.name.now) c.literal_names.ensures ∙ raw_same c.args.name.now c.utf8.name
+returns c = c.is_among.ensures ∙ ap (is_among c.args.name.now) c.literal_names.ensures ∙ raw_same c.args.name.now c.utf8.name
