@@ -1,6 +1,6 @@
 -- The attributes of a start tag, and the text that waits, as the reader makes their rows.
 use Rattle.std.proofs.lemmas.Bool.{or_left, or_right, eq-eqb}
-use Rattle.std.proofs.Common.{IsTrue, ◌||◌, ◌&&◌, eqb, ◌≡◌, ℕ, zero, suc, ◌+◌, ◌≤◌, ◌<◌, List, [], ◌∷◌, ◌++◌, map, length, take, get_or, false, sym, refl, ◌∙◌, ap, subst, arith, append_assoc, append-nil, length-append, length-take}
+use Rattle.std.proofs.Common.{IsTrue, ◌||◌, ◌&&◌, eqb, ◌≡◌, ℕ, zero, suc, ◌+◌, ◌≤◌, ◌<◌, List, [], ◌∷◌, ◌++◌, map, length, take, get_or, false, sym, refl, ◌∙◌, ap, subst, arith, append_assoc, length-append, length-take}
 use Rattle.std.proofs.Common.{◌-◌, Option, Some, None, option_to_list, IsSome, ◌↔◌}
 use Rattle.html_reader.specs.inner.Parents.{Small, Within}
 use Rattle.html_reader.proofs.CalmLemmas.{within_flushed}
@@ -93,9 +93,6 @@ new_behind front parent n tag name doc k small e at new l kind par =
 abbrev pub attrs_grown : Growing → List code.Attr → Growing
 attrs_grown g attrs = growing (g.rows ++ map (row_of_attribute (innermost g.open_rows)) (map attr_of attrs)) g.open_rows
 
-pub none_grown : (g : Growing) → g ≡ attrs_grown g []
-none_grown g = ap (λ r. growing r g.open_rows) (sym (append-nil g.rows))
-
 -- the last row is the element or an attribute of it
 follows_at : (front : Document) (parent n : ℕ) (tag : Tag) (doc : Document) → doc ≡ front ++ tag_rows parent n tag → n ≡ length front
     → IsTrue (eqb n (length doc - 1) || (is_attribute doc (length doc - 1) && eqb (row doc (length doc - 1)).parent n))
@@ -137,23 +134,6 @@ attr_room g h attrs k is l =
     omega (arith, rows, length-append g.rows (map f (map attr_of (take k attrs))), length-map (map attr_of (take k attrs)) f, length-map (take k attrs) attr_of, length-take k attrs)
 
 -- the text that waits
-no_open : (ns : List ℕ) → length ns ≡ 0 → ns ≡ []
-no_open [] e = refl
-no_open (n ∷ ns) e = absurd (omega (arith, e))
-
-pub settle_root : (g : Growing) (waits : List ℕ) → length g.open_rows ≡ 0 → grown_of g [] ≡ settled (grown_of g waits)
-settle_root g waits e =
-    let none = no_open g.open_rows e in
-    ap (λ r. below g.open_rows (sofar r [])) (sym (append-nil g.rows) ∙ ap (λ ns. g.rows ++ text_rows (innermost ns) waits) (sym none))
-
-empty_rows : (p : ℕ) → text_rows p [] ≡ []
-empty_rows zero = refl
-empty_rows (suc p) = refl
-
-pub settle_empty : (g : Growing) (waits : List ℕ) → waits ≡ [] → grown_of g waits ≡ settled (grown_of g waits)
-settle_empty g waits e =
-    ap (grown_of g) e ∙ ap (λ r. below g.open_rows (sofar r [])) (sym (append-nil g.rows) ∙ ap (λ r. g.rows ++ r) (sym (empty_rows (innermost g.open_rows)) ∙ ap (text_rows (innermost g.open_rows)) (sym e)))
-
 some_rows : (p : ℕ) (waits : List ℕ) → 0 < p → (waits ≡ [] → ⊥) → text_rows p waits ≡ row_of_text p waits ∷ []
 some_rows zero waits l h = absurd (omega arith)
 some_rows (suc p) [] l h = absurd (h refl)

@@ -1,5 +1,5 @@
 -- Attributes that are kept one by one.
-use Rattle.std.proofs.Common.{◌≡◌, ℕ, zero, suc, ◌+◌, ◌-◌, ◌<◌, ◌≤◌, List, [], ◌∷◌, ◌++◌, Bool, true, false, cond, ◌||◌, length, map, take, drop, get_or, sym, refl, ◌∙◌, ap, subst, arith, length-take, length-drop, append-nil, append_assoc, take-append-drop, length-append}
+use Rattle.std.proofs.Common.{◌≡◌, ℕ, ◌+◌, ◌-◌, ◌<◌, ◌≤◌, List, [], ◌∷◌, ◌++◌, Bool, true, false, cond, ◌||◌, length, map, take, drop, get_or, sym, refl, ◌∙◌, ap, subst, arith, length-take, length-drop, append-nil, append_assoc, take-append-drop}
 use Rattle.std.specs.Prelude.{◌≢◌, slice_range, Result, Ok, Err, OnOk}
 use Rattle.std.specs.Str.{IsUtf8, bytes_eq, str_to_ascii_lowercase}
 use Rattle.std.proofs.lemmas.Slice.Eq.{bytes_eq-Decides}
@@ -119,19 +119,6 @@ learns has new attrs known d bytes h l named is = record { within = omega (arith
         ∙ ap (λ n. has_name (map attr_of (take known attrs)) name || (bytes_eq n name || false)) named
         ∙ sym (list_any-append (λ (a : Attr). bytes_eq a.name name) (map attr_of (take known attrs)) (attr_of (get_or attrs known d) ∷ []))
         ∙ ap (λ attrs. has_name attrs name) (sym (ap (map attr_of) (take_more attrs known d l) ∙ map-append attr_of (take known attrs) (get_or attrs known d ∷ [])))
-
-take_front : (known : ℕ) (attrs : List code.Attr) (a : code.Attr) → known ≤ length attrs → take known (attrs ++ a ∷ []) ≡ take known attrs
-take_front zero attrs a l = refl
-take_front (suc known) [] a l = absurd (omega (arith, l))
-take_front (suc known) (b ∷ attrs) a l = ap (λ attrs. b ∷ attrs) (take_front known attrs a (omega (arith, l)))
-
-pub still_knows : (has : List ℕ → Bool) (attrs new : List code.Attr) (known : ℕ) (a : code.Attr) → Knows has attrs known → new ≡ attrs ++ a ∷ [] → Knows has new known
-still_knows has attrs new known a h is =
-    let more : Knows has (attrs ++ a ∷ []) known = record {
-      within = omega (arith, h.within, length-append attrs (a ∷ []));
-      same = λ name. h.same name ∙ ap (λ attrs. has_name (map attr_of attrs) name) (sym (take_front known attrs a h.within));
-    } in
-    subst (λ attrs. Knows has attrs known) (sym is) more
 
 pub texts_push : (attrs : List Attr) (a : Attr) → HaveTexts attrs → IsUtf8 a.name → HaveTexts (attrs ++ a ∷ [])
 texts_push [] a h u = (u, tt)

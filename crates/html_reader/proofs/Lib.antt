@@ -10,7 +10,6 @@ pub mod CalmLemmas
 pub mod AttrLemmas
 pub mod SoundLemmas
 pub mod TestLemmas
-pub mod Witness
 pub mod RoomLemmas
 pub mod LawLemmas
 pub mod PieceLemmas

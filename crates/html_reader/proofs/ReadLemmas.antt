@@ -13,7 +13,7 @@ use Rattle.html_reader.specs.Rows.{text_rows}
 use Rattle.html_reader.specs.Words.{is_shut}
 use Rattle.html_reader.specs.inner.Machine.{State, state, step, shuts, after_shuts, closing, is_empty}
 use Rattle.html_reader.specs.Reading.{Builds, Refuses}
-use Rattle.html_reader.specs.inner.Reached.{IsReached, IsSome, state_at}
+use Rattle.html_reader.specs.inner.Reached.{IsSome, state_at}
 use Rattle.html_reader.specs.inner.States.{IsSound, made_count, tok_of, Steps}
 use Rattle.html_reader.specs.inner.Taking.{LeadsTo, IsLed, size, Takes}
 use Rattle.html_reader.specs.declared.token.Token.{Token}
@@ -21,9 +21,6 @@ use Rattle.text_base.specs.declared.reasons.PageFault.{PageFault}
 use Rattle.html_reader.proofs.RoomLemmas.{step_room, step_made}
 use Rattle.html_reader.proofs.StepLemmas.{reach_shuts, reach_token, reach_refused, reach_leads, shuts_made}
 use Rattle.html_reader.proofs.SoundLemmas.{reached_sound}
-
-pub led_reached : (next : Option Tok) (s : State) → IsLed s → IsReached next s
-led_reached next s h = record { tokens = h.tokens; reached = h.led next }
 
 pub mid_sound : (next : Option Tok) (old mid : State) → mid ≡ shuts next old → IsLed old → IsSound mid
 mid_sound next old mid is h = subst IsSound (sym is) (reached_sound next (shuts next old) (record { tokens = h.tokens; reached = (reach_shuts h.tokens next old.tags old.rooted old.grown (h.led next)).0 }))
@@ -128,14 +125,6 @@ pub takes : (old mid new : State) (t : Token) (r : Result (Unit {0}) PageFault) 
 takes old mid new t (Ok u) is h = (takes_token old mid new (tok_of t) is h, step_made mid (tok_of t) new h ∙ ap (λ (s : State). s.rooted.made) is ∙ shuts_made (Some (tok_of t)) old.tags old.rooted old.grown, omega (arith, step_room mid (tok_of t) new h, mid_size (Some (tok_of t)) old mid is))
 takes old mid new t (Err fault) is (inl memory) = inl memory
 takes old mid new t (Err fault) is (inr refused) = inr (refused.1, refuses_token old mid (tok_of t) fault.reason is refused.0)
-
--- where no element is open, no row is
-pub none_open : (s : State) → IsSound s → s.rooted.made ≡ false → is_empty s.tags ≡ true → s.grown.open_rows ≡ []
-none_open s h unmade none = nil_of s.grown.open_rows (h.level ∙ (λ i. made_count (unmade i) + length (no_tags s.tags none i)))
-  where
-    nil_of : (ns : List ℕ) → length ns ≡ 0 → ns ≡ []
-    nil_of [] e = refl
-    nil_of (n ∷ ns) e = absurd (omega (arith, e))
 
 -- where an element is open, a made root counted, a row is
 pub still_open : (s : State) → length s.grown.open_rows ≡ made_count s.rooted.made + length s.tags → (not s.rooted.made && is_empty s.tags) ≡ false → s.grown.open_rows ≡ [] → ⊥

@@ -47,9 +47,6 @@ pub none_tags : (next : Option Tok) (tags : List Tag) (rooted : Root) (g : Grown
 none_tags next [] rooted g h = refl
 none_tags next (tag ∷ before) rooted g h = rw h refl
 
-pub shuts_none : (next : Option Tok) (s first : State) → shuts next s ≡ shuts next first → is_shut s.tags next ≡ false → s ≡ shuts next first
-shuts_none next s first e h = sym (none_tags next s.tags s.rooted s.grown h) ∙ e
-
 few : (p : ℕ) (waits : List ℕ) → length (text_rows p waits) ≤ 1
 few zero waits = omega arith
 few (suc p) [] = omega arith
@@ -61,9 +58,6 @@ closed_tags next s h = by_tags s.tags h
     by_tags : (tags : List Tag) → is_shut tags next ≡ true → length (without_first tags) + 1 ≡ length tags
     by_tags [] h = cc
     by_tags (tag ∷ before) h = omega arith
-
-pub closed_less : (next : Option Tok) (s t : State) → t ≡ closed s → is_shut s.tags next ≡ true → length t.tags < length s.tags
-closed_less next s t is h = omega (arith, ap (λ (x : State). length x.tags) is, closed_tags next s h)
 
 pub closed_room : (next : Option Tok) (s t : State) (most : ℕ) → t ≡ closed s → is_shut s.tags next ≡ true → length s.grown.sofar.rows + length s.tags + 1 < most → length t.grown.sofar.rows + length t.tags + 1 < most
 closed_room next s t most is h room =
