@@ -28,15 +28,6 @@ stays_over o bytes h = record {
   each = λ was k. holds_over o (was ++ bytes) h (let more : limit_of o < length was = held_over o was h k in omega (arith, length-append was bytes));
 }
 
--- bytes that are more than the limit allows are not kept
-pub goes_over : (o n : Output) (bytes : List ℕ) → o.over ≡ false → n.over ≡ true → string_bytes n.text ≡ string_bytes o.text → n.left ≡ o.left → o.left < length bytes → AddsBytes o n bytes
-goes_over o n bytes h k same left more =
-    let limit_is : limit_of n ≡ limit_of o = omega (arith, ap (length {A = ℕ}) same) in
-    record {
-      limit = limit_is;
-      each = λ was w. holds_over n (was ++ bytes) k (omega (arith, length-append was bytes, ap (length {A = ℕ}) (held_within o was h w)));
-    }
-
 -- bytes that it allows are
 pub grows : (o n : Output) (bytes : List ℕ) → o.over ≡ false → n.over ≡ false → string_bytes n.text ≡ string_bytes o.text ++ bytes → n.left + length bytes ≡ o.left → AddsBytes o n bytes
 grows o n bytes h k same left = record {

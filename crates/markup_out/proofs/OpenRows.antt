@@ -1,5 +1,5 @@
 -- What is still to be written while the markup of a row is written.
-use Rattle.std.proofs.Common.{◌≡◌, ℕ, ◌+◌, ◌-◌, ◌*◌, ◌<◌, ◌≤◌, Bool, List, [], ◌∷◌, ◌++◌, length, true, false, cond, refl, sym, ◌∙◌, ap, subst, arith, inl, inr, ◌⊎◌, append_assoc}
+use Rattle.std.proofs.Common.{◌≡◌, ℕ, ◌+◌, ◌-◌, ◌<◌, ◌≤◌, Bool, List, [], ◌∷◌, ◌++◌, length, true, false, cond, refl, sym, ◌∙◌, ap, subst, arith, inl, inr, ◌⊎◌, append_assoc}
 use Rattle.std.specs.Prelude.{filter, flat_map}
 use Rattle.std.specs.List.{range_with_len}
 use Rattle.std.proofs.lemmas.Bool.{and_parts, cases_lt, cases_eq, ltb-true, both_ways, false_from_ne_true}
@@ -20,7 +20,6 @@ use Rattle.markup_out.proofs.AddingLemmas.{both, same, adds_over}
 use Rattle.markup_out.proofs.ContentRows.{child_parent, child_no_attribute, nested_cases, on_child, no_content}
 use Rattle.markup_out.proofs.AttributeRows.{before_cases}
 use Rattle.markup_out.proofs.Levels.{child_behind}
-use Rattle.std.proofs.Math.Nat.{mul-le-mul_left, mul-add}
 
 -- What is written after the content of x up to the end of the markup of i, where x is i or below it: what stands
 -- after x, then the children of its parent after it, and so on upwards.
@@ -252,14 +251,6 @@ pub goes_on_over : (back : Bool) (doc : Document) (i x y : ℕ) (start now : Out
 goes_on_over back doc i x y start now h g = same start now _ _ g.whole (adds_over start now g.written (content_from back doc x y ++ g.rest) h g.adds)
 
 -- ---- the loop ends
-
-pub open_less : (n x y z : ℕ) → x < y → y < z → z ≤ n → (n + 1) * (n - z) + y < (n + 1) * (n - y) + x
-open_less n x y z h k l =
-    let k1 : n - y ≡ (n - z) + (z - y) = omega arith in
-    let k2 : 1 ≤ z - y = omega arith in
-    let step : (n + 1) * 1 ≤ (n + 1) * (z - y) = mul-le-mul_left (n + 1) k2 in
-    let all : (n + 1) * (n - y) ≡ (n + 1) * (n - z) + (n + 1) * (z - y) = ap (λ v. (n + 1) * v) k1 ∙ mul-add (n + 1) (n - z) (z - y) in
-    omega arith
 
 -- a row whose content ends is no root node, where it is not i
 rest_parent : (back : Bool) (doc : Document) (i x : ℕ) (rest : List ℕ) → Small doc → (x ≡ i → ⊥) → IsRest back doc i x rest → (row doc x).parent < x
