@@ -4,6 +4,7 @@ use Rattle.std.specs.List.{list_any, list_all}
 use Rattle.std.specs.Ordering.{int_eq}
 use Rattle.doc_model.specs.Document.{Document, rows}
 use Rattle.doc_model.specs.Axes.{axis_list}
+pub use Rattle.doc_model.specs.RowLists.{has}
 use Rattle.xpath_values.specs.declared.value.XNum.{XNum}
 use Rattle.xpath_values.specs.declared.value.XNum.TheVariants.{Whole, NaN}
 use Rattle.xpath_values.specs.declared.value.Value.{Value}
@@ -26,9 +27,6 @@ Meaning = Context → Value
 -- the rows from one row, in the axis' order
 abbrev pub Walk : Type 0
 Walk = ℕ → List ℕ
-
-abbrev pub has : ℕ → List ℕ → Bool
-has y xs = list_any (λ x. x == y) xs
 
 -- a number is compared with the position, and anything else is a truth
 abbrev pub keeps : ℕ → Value → Bool
