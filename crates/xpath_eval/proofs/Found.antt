@@ -1,11 +1,10 @@
 -- Whether there is a row, asked of the rows one by one.
-use Rattle.std.proofs.Common.{◌≡◌, refl, sym, ◌∙◌, ap, subst, ℕ, suc, ◌+◌, ◌-◌, ◌<◌, Bool, true, false, ◌||◌, cond, List, [], ◌∷◌, ◌++◌, length, take, map, get_or, arith}
+use Rattle.std.proofs.Common.{◌≡◌, refl, sym, ◌∙◌, ap, ℕ, suc, ◌+◌, ◌-◌, ◌<◌, Bool, true, false, ◌||◌, cond, List, [], ◌∷◌, ◌++◌, length, take, map, get_or, arith}
 use Rattle.std.specs.Cmp as std_cmp
-use Rattle.std.specs.Prelude.{filter, nat_lt, Some, None, slice_get}
+use Rattle.std.specs.Prelude.{filter, nat_lt}
 use Rattle.std.specs.List.{list_any}
 use Rattle.std.proofs.Math.Seq.{take-append_seam}
 use Rattle.std.proofs.lemmas.List.{length-append, take_all}
-use Rattle.std.proofs.lemmas.List.Elements.{All-head}
 use Rattle.doc_model.specs.declared.Axis.TheVariants as axis
 use Rattle.doc_model.specs.Axes.{axis_list}
 use Rattle.doc_model.specs.Document.{Document, IsDocument}
@@ -112,16 +111,3 @@ module _ (doc : Document) where
       ap (λ v. list_any (passes_all doc (out-Step s).predicates) (rows_in doc (path doc xs (map (walk_of doc) v)) (λ x. axis_list doc x axis.Descendant (out-Step s).test))) cut
       ∙ ap (λ v. list_any (passes_all doc (out-Step v).predicates) (rows_in doc (path doc xs (map (walk_of doc) e.before)) (λ x. axis_list doc x axis.Descendant (out-Step v).test))) (sym same)
       ∙ any_ends xs ss e d
-
--- the first row of a list, and a list without one
-pub first_passes : (p : ℕ → Bool) (xs : List ℕ) (y : ℕ) → Some y ≡ slice_get xs 0 → p y ≡ true → true ≡ list_any p xs
-first_passes p [] y e h = cc
-first_passes p (x ∷ xs) y e h = let same : y ≡ x = cc in ap (λ b. b || list_any p xs) (sym h ∙ ap p same)
-
-pub none_passes : (p : ℕ → Bool) (xs : List ℕ) → None ≡ slice_get xs 0 → false ≡ list_any p xs
-none_passes p [] e = refl
-none_passes p (x ∷ xs) e = cc
-
-pub first_below : (n : ℕ) (xs : List ℕ) (y : ℕ) → Some y ≡ slice_get xs 0 → AllBelow n xs → y < n
-first_below n [] y e a = cc
-first_below n (x ∷ xs) y e a = let same : x ≡ y = cc in subst (λ v. v < n) same (All-head (λ v. v < n) x xs a)

@@ -18,9 +18,8 @@
 //!   first row, but on the preceding axes. `count` of one step without predicates makes no list.
 //! - `or` and `and` stop at the first operand that decides.
 //! - Where it is only asked whether a path gives a row, as in a predicate, an operand of `or` or `and`, or the argument of
-//!   `not` there, the rows of all its steps but the last are found, and the last ends at the first row. It makes no list
-//!   where it has no predicates, nor where they ask about the row alone and hold at the first row on its axis; otherwise
-//!   the rows on its axis are listed, from one context row after the other, and asked one by one.
+//!   `not` there, the rows of all its steps but the last are found, and the last ends at the first row. Without predicates
+//!   it makes no list; otherwise the rows on its axis are listed from one context row after the other, and asked one by one.
 //! - A call of a stored test asks it once, on the string values of its two arguments.
 #![tactic(auto)]
 

@@ -244,7 +244,7 @@ fn each_tested<S: Axes, Q: Asks>(
     Ok(false)
 }
 
-/// The same from one row. There is no list without predicates, nor where the first row is one.
+/// The same from one row. Without predicates there is no list.
 #[cycle(evaluation)]
 fn tested_from<S: Axes, Q: Asks>(
     alloc: Global,
@@ -261,14 +261,6 @@ fn tested_from<S: Axes, Q: Asks>(
 {
     if step.predicates.len() == 0 {
         return Ok(source.axis_any(x, axis, &step.test));
-    }
-    match source.axis_first(x, axis, &step.test) {
-        None => return Ok(false),
-        Some(y) => {
-            if all(alloc, source, step.predicates.as_slice(), alone(y), tests)? {
-                return Ok(true);
-            }
-        }
     }
     let rows = axis_rows(alloc, source, x, axis, &step.test)?;
     one_passes(

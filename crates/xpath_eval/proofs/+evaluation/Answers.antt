@@ -546,8 +546,8 @@ truths::tested_from-returns g t c =
     let doc = g.S.Tree.document c.args.source.now in
     let s = out-Step c.args.step.now in
     subst (λ v. IfOk c.one_passes.result (λ b. b ≡ v))
-    (ap (λ ps. list_any (passes_all doc ps) c.as_slice-2.result.now) c.as_slice-3.ensures
-    ∙ ap (list_any (passes_all doc s.predicates)) (c.as_slice-2.ensures.value ∙ c.in_ok-rows.ensures.rows))
+    (ap (λ ps. list_any (passes_all doc ps) c.as_slice.result.now) c.as_slice-2.ensures
+    ∙ ap (list_any (passes_all doc s.predicates)) (c.as_slice.ensures.value ∙ c.in_ok-rows.ensures.rows))
     c.one_passes.ensures
 
 pub truths::finds-returns-then-ends_below : goal.truths::finds-returns-then-ends_below
@@ -592,34 +592,9 @@ truths::finds-gives-requires g t c =
 pub truths::tested_from-one_passes-requires : goal.truths::tested_from-one_passes-requires
 truths::tested_from-one_passes-requires g t c =
     let doc = g.S.Tree.document c.args.source.now in
-    let part = subst (All (AsksOnly (g.Q.Asks.kinds c.args.tests.now))) (sym c.as_slice-3.ensures) c.requires.tests in
-    let below = subst (AllBelow (length doc)) (sym c.as_slice-2.ensures.value) c.in_ok-rows.ensures.below in
+    let part = subst (All (AsksOnly (g.Q.Asks.kinds c.args.tests.now))) (sym c.as_slice-2.ensures) c.requires.tests in
+    let below = subst (AllBelow (length doc)) (sym c.as_slice.ensures.value) c.in_ok-rows.ensures.below in
     search (rules, step.the_lemmas)
-
-pub truths::tested_from-all-requires : goal.truths::tested_from-all-requires
-truths::tested_from-all-requires g t c =
-    let doc = g.S.Tree.document c.args.source.now in
-    let s = out-Step c.args.step.now in
-    let part = subst (All (AsksOnly (g.Q.Asks.kinds c.args.tests.now))) (sym c.as_slice.ensures) c.requires.tests in
-    let place = c.alone.ensures in
-    let below : c.in-Some.y < length doc = found.first_below (length doc) (axis_list doc c.args.x c.args.axis s.test) c.in-Some.y (sym c.in-Some.is ∙ c.axis_first.ensures) (kept.axis_below doc c.args.x c.args.axis s.test) in
-    let at : c.alone.result.row < length doc = subst (λ p. p.row < length doc) (sym place) below in
-    search (rules, step.the_lemmas)
-
-pub truths::tested_from-returns-in-None : goal.truths::tested_from-returns-in-None
-truths::tested_from-returns-in-None g t c =
-    let doc = g.S.Tree.document c.args.source.now in
-    let s = out-Step c.args.step.now in
-    found.none_passes (passes_all doc s.predicates) (axis_list doc c.args.x c.args.axis s.test) (sym c.in-None.is ∙ c.axis_first.ensures)
-
-pub truths::tested_from-returns-then-branch : goal.truths::tested_from-returns-then-branch
-truths::tested_from-returns-then-branch g t c =
-    let doc = g.S.Tree.document c.args.source.now in
-    let s = out-Step c.args.step.now in
-    let told : c.in_ok-all-in-Some.field-0 ≡ passes_all doc s.predicates c.in-Some.y =
-    c.in_ok-all-in-Some.ensures ∙ ap (λ p. list_all (λ x. conversions.truth_of (spec.denote doc x (context p))) c.as_slice.result.now) c.alone.ensures
-    ∙ ap (λ ps. passes_all doc ps c.in-Some.y) c.as_slice.ensures in
-    found.first_passes (passes_all doc s.predicates) (axis_list doc c.args.x c.args.axis s.test) c.in-Some.y (sym c.in-Some.is ∙ c.axis_first.ensures) (sym told ∙ c.if-branch.true)
 
 pub truths::first_is_false-is_true-requires : goal.truths::first_is_false-is_true-requires
 truths::first_is_false-is_true-requires g t c =
