@@ -1,9 +1,8 @@
 //! The values of expressions on a small document.
-use crate::stored::add_four;
 use doc_model::{Axes, Plain};
 use std::alloc::Global;
 use std::test::Fail;
-use test_registry::Tests;
+use test_registry::{TestKind, Tests, ends_with, has_word, near, same_folded};
 use text_base::NoMemory;
 use worked_trees::{Step, tree_of};
 use xpath_eval::{eval, eval_with};
@@ -87,7 +86,24 @@ fn asks_stored_tests(rt: HostRuntime) -> Result<(), Fail> {
     let alloc = rt.alloc();
     let page = Plain::new(tree_of(alloc, &PAGE[..]).expect(&rt, "memory"));
     let mut tests = Tests::new(alloc);
-    assert!(rt; add_four(alloc, &mut tests)?);
+    let test: Box<dyn Fn(&str, &str) -> bool> = Box::new(
+        alloc,
+        |a: &str, b: &str| same_folded(a, b),
+    )?;
+    assert!(rt; tests.add("same", TestKind::SameFolded, test).is_ok());
+    let test: Box<dyn Fn(&str, &str) -> bool> = Box::new(
+        alloc,
+        |a: &str, b: &str| ends_with(a, b),
+    )?;
+    assert!(rt; tests.add("ends-with", TestKind::EndsWith, test).is_ok());
+    let test: Box<dyn Fn(&str, &str) -> bool> = Box::new(alloc, |a: &str, b: &str| has_word(a, b))?;
+    assert!(rt; tests.add("has-word", TestKind::HasWord, test).is_ok());
+    let most = 100u32;
+    let test: Box<dyn Fn(&str, &str) -> bool> = Box::new(
+        alloc,
+        move |a: &str, b: &str| near(most, a, b),
+    )?;
+    assert!(rt; tests.add("near", TestKind::Near(most), test).is_ok());
     for (text, want) in [
         ("same('AbC', 'aBc')", "true"),
         ("ends-with('abc', '')", "true"),

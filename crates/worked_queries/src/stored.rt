@@ -1,31 +1,6 @@
 //! Tests that are stored.
-use std::alloc::Global;
 use std::test::Fail;
 use test_registry::{AddFault, TestKind, Tests, ends_with, has_word, near, same_folded};
-use text_base::NoMemory;
-
-/// Adds `same`, `ends-with`, `has-word` and `near` of 100, and says whether all were taken.
-pub fn add_four(alloc: Global, tests: &mut Tests) -> Result<bool, NoMemory> {
-    let test: Box<dyn Fn(&str, &str) -> bool> = Box::new(
-        alloc,
-        |a: &str, b: &str| same_folded(a, b),
-    )?;
-    let same = tests.add("same", TestKind::SameFolded, test).is_ok();
-    let test: Box<dyn Fn(&str, &str) -> bool> = Box::new(
-        alloc,
-        |a: &str, b: &str| ends_with(a, b),
-    )?;
-    let ends = tests.add("ends-with", TestKind::EndsWith, test).is_ok();
-    let test: Box<dyn Fn(&str, &str) -> bool> = Box::new(alloc, |a: &str, b: &str| has_word(a, b))?;
-    let word = tests.add("has-word", TestKind::HasWord, test).is_ok();
-    let most = 100u32;
-    let test: Box<dyn Fn(&str, &str) -> bool> = Box::new(
-        alloc,
-        move |a: &str, b: &str| near(most, a, b),
-    )?;
-    let close = tests.add("near", TestKind::Near(most), test).is_ok();
-    Ok(same && ends && word && close)
-}
 
 /// What the test of that name answers, if there is one.
 fn asked(tests: &Tests, name: &str, a: &str, b: &str) -> Option<bool> {
@@ -39,7 +14,24 @@ fn asked(tests: &Tests, name: &str, a: &str, b: &str) -> Option<bool> {
 fn asks_stored_tests(rt: HostRuntime) -> Result<(), Fail> {
     let alloc = rt.alloc();
     let mut tests = Tests::new(alloc);
-    assert!(rt; add_four(alloc, &mut tests)?);
+    let test: Box<dyn Fn(&str, &str) -> bool> = Box::new(
+        alloc,
+        |a: &str, b: &str| same_folded(a, b),
+    )?;
+    assert!(rt; tests.add("same", TestKind::SameFolded, test).is_ok());
+    let test: Box<dyn Fn(&str, &str) -> bool> = Box::new(
+        alloc,
+        |a: &str, b: &str| ends_with(a, b),
+    )?;
+    assert!(rt; tests.add("ends-with", TestKind::EndsWith, test).is_ok());
+    let test: Box<dyn Fn(&str, &str) -> bool> = Box::new(alloc, |a: &str, b: &str| has_word(a, b))?;
+    assert!(rt; tests.add("has-word", TestKind::HasWord, test).is_ok());
+    let most = 100u32;
+    let test: Box<dyn Fn(&str, &str) -> bool> = Box::new(
+        alloc,
+        move |a: &str, b: &str| near(most, a, b),
+    )?;
+    assert!(rt; tests.add("near", TestKind::Near(most), test).is_ok());
     for (name, a, b, want) in [
         ("same", "AbC", "aBc", Some(true)),
         ("same", "é", "É", Some(false)),
