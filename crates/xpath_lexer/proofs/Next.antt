@@ -13,7 +13,8 @@ use Rattle.xpath_lexer.specs.Tokens.{Text, lexeme, token}
 use Rattle.xpath_lexer.specs.inner.Sizes.{token_size}
 use Rattle.xpath_lexer.specs.Places.{value_bytes}
 use Rattle.xpath_lexer.specs.inner.Stands.{IsNext, ValueStands}
-use Rattle.xpath_lexer.proofs.Cuts.{written, cut, Quotes, Sound, is_literal, token_right}
+use Rattle.xpath_lexer.proofs.Cuts.{Quotes, Sound, token_right}
+use Rattle.xpath_lexer.proofs.Extents.{written, cut, is_literal}
 
 pub encode_chars : (bs : Text) → IsUtf8 bs → encode_utf8_all (chars bs) ≡ bs
 encode_chars bs u = encodes-chars bs u

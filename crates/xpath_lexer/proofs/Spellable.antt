@@ -3,7 +3,8 @@ use Rattle.std.proofs.Common.{◌≡◌, refl, sym, ◌∙◌, ap, subst, ℕ, z
 use Rattle.text_base.specs.Text.{is_space4}
 use Rattle.xpath_lexer.specs.Tokens.{Text, Lexeme, lexeme, Begun, Spells, token, ends, space, next}
 use Rattle.xpath_lexer.specs.inner.Sizes.{Size, token_size}
-use Rattle.xpath_lexer.proofs.Cuts.{cut, written, Sound, token_right}
+use Rattle.xpath_lexer.proofs.Cuts.{Sound, token_right}
+use Rattle.xpath_lexer.proofs.Extents.{cut, written}
 use Rattle.xpath_lexer.proofs.Spelling.{after_space, after_token, none_begins}
 
 pub record Spelled (text : Text) : Type 0 where
