@@ -5,10 +5,8 @@ ghost use Rattle.doc_model.specs.RowLists.{IsFront};
 
 use crate::axes::Axes;
 use crate::tree::Tree;
-use crate::walks::{
-    across_count, across_first, across_into, across_last, is_reverse, is_upward, up_count,
-    up_first, up_into,
-};
+use crate::upward::{up_count, up_first, up_into};
+use crate::walks::{across_count, across_first, across_into, across_last, is_reverse, is_upward};
 use crate::{Axis, Kind, NodeTest};
 use text_base::NoMemory;
 

@@ -1,7 +1,7 @@
 use Rattle.std.proofs.Common.{refl, inl, arith}
 use Rattle.doc_model.proofs.Below.{small}
 use Rattle.doc_model.proofs.WalkSteps as steps
-use Rattle.doc_model.proofs.walks.up_count.Goals as goal
+use Rattle.doc_model.proofs.upward.up_count.Goals as goal
 
 pub loop-y-init : goal.loop-y-init
 loop-y-init g c = record {

@@ -2,7 +2,7 @@ use Rattle.std.proofs.Common.{refl, ◌∙◌, ap, cond, [], ◌∷◌, inl, ari
 use Rattle.doc_model.proofs.Below.{small}
 use Rattle.doc_model.proofs.Nearest as nearest
 use Rattle.doc_model.proofs.WalkSteps as steps
-use Rattle.doc_model.proofs.walks.up_first.Goals as goal
+use Rattle.doc_model.proofs.upward.up_first.Goals as goal
 
 pub returns-then-is_own : goal.returns-then-is_own
 returns-then-is_own g c =

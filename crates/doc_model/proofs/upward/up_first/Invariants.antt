@@ -3,7 +3,7 @@ use Rattle.std.specs.Prelude.{filter, reverse}
 use Rattle.std.specs.List.{range_with_len}
 use Rattle.doc_model.specs.inner.Walks.{chosen}
 use Rattle.doc_model.proofs.WalkSteps.{IsOver}
-use Rattle.doc_model.proofs.walks.up_first.Given as goal
+use Rattle.doc_model.proofs.upward.up_first.Given as goal
 
 abbrev pub invariant-loop-y : goal.invariant-loop-y
 invariant-loop-y g l = record {

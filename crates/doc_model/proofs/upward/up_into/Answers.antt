@@ -2,7 +2,7 @@ use Rattle.std.proofs.Common.{◌++◌, ◌∷◌, [], cond, refl, ap, sym, ◌�
 use Rattle.doc_model.proofs.Below.{small}
 use Rattle.doc_model.proofs.Runs.{on_err}
 use Rattle.doc_model.proofs.WalkSteps as steps
-use Rattle.doc_model.proofs.walks.up_into.Goals as goal
+use Rattle.doc_model.proofs.upward.up_into.Goals as goal
 
 pub loop-y-init : goal.loop-y-init
 loop-y-init g c = record {

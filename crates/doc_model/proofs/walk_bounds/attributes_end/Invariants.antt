@@ -1,6 +1,6 @@
 use Rattle.std.proofs.Common.{◌≡◌, ◌<◌, ◌≤◌, ◌-◌, ℕ, true}
 use Rattle.doc_model.specs.Document.{is_attribute}
-use Rattle.doc_model.proofs.walks.attributes_end.Given as goal
+use Rattle.doc_model.proofs.walk_bounds.attributes_end.Given as goal
 
 abbrev pub invariant-loop-e : goal.invariant-loop-e
 invariant-loop-e g l = record {

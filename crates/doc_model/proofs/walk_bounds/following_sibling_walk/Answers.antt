@@ -1,6 +1,6 @@
 use Rattle.std.proofs.Common.{sym, ◌∙◌}
 use Rattle.doc_model.proofs.AxisWalks as walks
-use Rattle.doc_model.proofs.walks.following_sibling_walk.Goals as goal
+use Rattle.doc_model.proofs.walk_bounds.following_sibling_walk.Goals as goal
 
 pub returns : goal.returns
 returns g c =

@@ -2,7 +2,7 @@ use Rattle.std.proofs.Common.{subst, sym}
 use Rattle.doc_model.specs.declared.Axis.TheVariants as axis
 use Rattle.doc_model.specs.inner.Walks.{IsWalk}
 use Rattle.doc_model.proofs.AxisWalks as walks
-use Rattle.doc_model.proofs.walks.following_walk.Goals as goal
+use Rattle.doc_model.proofs.walk_bounds.following_walk.Goals as goal
 use Rattle.std.proofs.Common.{false}
 
 pub returns : goal.returns

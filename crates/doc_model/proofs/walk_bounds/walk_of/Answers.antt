@@ -1,6 +1,6 @@
 use Rattle.std.proofs.Common.{refl}
 use Rattle.doc_model.proofs.AxisWalks as walks
-use Rattle.doc_model.proofs.walks.walk_of.Goals as goal
+use Rattle.doc_model.proofs.walk_bounds.walk_of.Goals as goal
 
 pub returns-in-Child : goal.returns-in-Child
 returns-in-Child g c =
