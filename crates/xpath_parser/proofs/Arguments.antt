@@ -19,7 +19,7 @@ use Rattle.xpath_parser.specs.Faults.{argument_count, count_after_round, commas}
 use Rattle.xpath_parser.specs.Shapes.{typing, takes, is_nodes, wants_nodes, if_wanted}
 use Rattle.xpath_parser.specs.inner.Typings.{start_right, step_right, operand_right, fits}
 use Rattle.xpath_parser.proofs.Commas.{counted}
-use Rattle.xpath_parser.proofs.Complete.{First, Starts, begins}
+use Rattle.xpath_parser.proofs.Starting.{First, Starts, begins}
 use Rattle.xpath_parser.proofs.ShapeLemmas as shapes
 
 -- each function among the terms has its number of arguments

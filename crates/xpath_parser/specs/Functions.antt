@@ -3,15 +3,17 @@ use Rattle.std.specs.Prelude.{ℕ, Bool, true, false, ◌&&◌, ◌||◌, ◌==�
 use Rattle.std.specs.List.{list_any, fold}
 use Rattle.std.specs.Char.{to_ascii_lowercase}
 use Rattle.std.specs.Str.{bytes_eq}
-use Rattle.doc_model.specs.Document.{Document, row, rows, is_element, is_attribute, is_parent, below}
+use Rattle.doc_model.specs.Attributes.{is_attribute_of, has_id}
+use Rattle.doc_model.specs.Document.{Document, row, rows, below}
 use Rattle.doc_model.specs.StringValue.{string_value}
 use Rattle.test_registry.specs.Meets.{meets}
+use Rattle.text_base.specs.Strings.{starts_with, contains}
 use Rattle.xpath_values.specs.declared.value.XNum.{XNum}
 use Rattle.xpath_values.specs.declared.value.XNum.TheVariants.{Whole}
 use Rattle.xpath_values.specs.declared.value.Value.{Value}
 use Rattle.xpath_values.specs.declared.value.Value.TheVariants.{Nodes, Num, Str, Bool as Truth}
 use Rattle.xpath_values.specs.Numbers.{whole, num_add, to_number}
-use Rattle.xpath_values.specs.Strings.{begins, str_contains, str_before, str_after, substring_from, substring_of, words, normalized, translated}
+use Rattle.xpath_values.specs.Strings.{str_before, str_after, substring_from, substring_of, words, normalized, translated}
 use Rattle.xpath_parser.specs.declared.expression.Func.{Func}
 use Rattle.xpath_parser.specs.declared.expression.Func.TheVariants as f
 use Rattle.xpath_parser.specs.Conversions.{rows_of, truth_of, text_of, number_of, is_any}
@@ -29,7 +31,7 @@ arg i vs other = slice_index_or vs i other
 module _ (doc : Document) where
   -- the attributes of y with that name, of which a document has at most one
   abbrev pub attributes_named : List ℕ → ℕ → List ℕ
-  attributes_named name y = filter (λ z. is_attribute doc z && (is_parent doc y z && bytes_eq (row doc z).name name)) (rows doc)
+  attributes_named name y = filter (is_attribute_of doc y name) (rows doc)
 
   abbrev pub first_name : List ℕ → List ℕ
   first_name [] = []
@@ -39,12 +41,9 @@ module _ (doc : Document) where
   is_first y [] = false
   is_first y (x ∷ xs) = x == y
 
-  abbrev pub has_id : List ℕ → ℕ → Bool
-  has_id word y = is_element doc y && list_any (λ z. bytes_eq (row doc z).text word) (attributes_named (codes "id") y)
-
   -- y is the first element with that id
   abbrev pub is_id : List ℕ → ℕ → Bool
-  is_id word y = is_first y (filter (has_id word) (rows doc))
+  is_id word y = is_first y (filter (has_id doc word) (rows doc))
 
   abbrev pub id_words : Value → List (List ℕ)
   id_words (Nodes xs) = flat_map (λ x. words (string_value doc x)) xs
@@ -60,7 +59,7 @@ module _ (doc : Document) where
   is_language x tongue =
       let low = map to_ascii_lowercase tongue in
       let wanted = map to_ascii_lowercase x in
-      bytes_eq low wanted || begins low (wanted ++ codes "-")
+      bytes_eq low wanted || starts_with low (wanted ++ codes "-")
 
   abbrev pub language_of : List ℕ → List ℕ → Bool
   language_of x [] = false
@@ -101,8 +100,8 @@ module _ (doc : Document) where
   called f.Name vs c = Str (first_name (rows_of (arg 0 vs (Nodes (c.row ∷ [])))))
   called f.Str vs c = Str (text_of doc (arg 0 vs (Nodes (c.row ∷ []))))
   called f.Concat vs c = Str (concat_of vs)
-  called f.StartsWith vs c = Truth (begins (text_of doc (arg 0 vs (Nodes []))) (text_of doc (arg 1 vs (Nodes []))))
-  called f.Contains vs c = Truth (str_contains (text_of doc (arg 0 vs (Nodes []))) (text_of doc (arg 1 vs (Nodes []))))
+  called f.StartsWith vs c = Truth (starts_with (text_of doc (arg 0 vs (Nodes []))) (text_of doc (arg 1 vs (Nodes []))))
+  called f.Contains vs c = Truth (contains (text_of doc (arg 0 vs (Nodes []))) (text_of doc (arg 1 vs (Nodes []))))
   called f.SubstringBefore vs c = Str (str_before (text_of doc (arg 0 vs (Nodes []))) (text_of doc (arg 1 vs (Nodes []))))
   called f.SubstringAfter vs c = Str (str_after (text_of doc (arg 0 vs (Nodes []))) (text_of doc (arg 1 vs (Nodes []))))
   called f.Substring vs c = Str (substring_at vs)
