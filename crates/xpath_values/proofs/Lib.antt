@@ -1,2 +1,1 @@
 mod Scanned
-mod Worked

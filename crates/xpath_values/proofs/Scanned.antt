@@ -11,8 +11,8 @@ use Rattle.std.proofs.lemmas.List.Sums.{prefix_len-le-length}
 use Rattle.xpath_values.specs.declared.value.XNum.{XNum}
 use Rattle.xpath_values.specs.declared.value.XNum.TheVariants.{NaN}
 use Rattle.xpath_values.specs.declared.reading.Reading.TheVariants as r
-use Rattle.text_base.specs.Text.{is_digit}
-use Rattle.xpath_values.specs.Numbers.{is_space4, largest_whole, trimmed, unsigned_number, signed_number, to_number}
+use Rattle.text_base.specs.Text.{is_digit, is_space4}
+use Rattle.xpath_values.specs.Numbers.{largest_whole, trimmed, unsigned_number, signed_number, to_number}
 use Rattle.xpath_values.specs.inner.Reading as s
 
 -- without white space at its end

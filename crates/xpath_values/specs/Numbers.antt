@@ -1,8 +1,8 @@
 -- XPath's numbers: whole numbers from -(2^53 - 1) to 2^53 - 1, and NaN.
-use Rattle.std.specs.Prelude.{ℕ, zero, suc, Bool, true, false, ◌||◌, ◌==◌, not, nat_le, if◌then◌else◌, List, [], ◌∷◌, reverse, drop, ℤ, pos, negsuc, ◌+ℤ◌, ◌-ℤ◌, ◌*ℤ◌, neg_ℤ, unsigned_abs, int_rem, codes, Option, Some, None}
+use Rattle.std.specs.Prelude.{ℕ, zero, suc, Bool, true, false, ◌==◌, not, nat_le, if◌then◌else◌, List, [], ◌∷◌, reverse, drop, ℤ, pos, negsuc, ◌+ℤ◌, ◌-ℤ◌, ◌*ℤ◌, neg_ℤ, unsigned_abs, int_rem, codes, Option, Some, None}
 use Rattle.std.specs.List.{list_all, prefix_len}
 use Rattle.std.specs.Fmt.{signed_decimal}
-use Rattle.text_base.specs.Text.{is_digit, digits_value}
+use Rattle.text_base.specs.Text.{is_digit, is_space4, digits_value}
 use Rattle.xpath_values.specs.declared.value.XNum.{XNum}
 use Rattle.xpath_values.specs.declared.value.XNum.TheVariants.{Whole, NaN}
 
@@ -51,9 +51,6 @@ num_rem a b = both whole_rem a b
 abbrev pub num_neg : XNum → XNum
 num_neg (Whole a) = whole (neg_ℤ a)
 num_neg NaN = NaN
-
-abbrev pub is_space4 : ℕ → Bool
-is_space4 c = (c == 32) || ((c == 9) || ((c == 13) || (c == 10)))
 
 -- without Space4 at its two ends
 abbrev pub trimmed : List ℕ → List ℕ

@@ -1,22 +1,15 @@
 -- The functions on strings, which are lists of characters.
-use Rattle.std.specs.Prelude.{ℕ, suc, ◌+◌, Bool, true, false, ◌&&◌, ◌==◌, nat_eq, if◌then◌else◌, List, [], ◌∷◌, ◌++◌, length, take, drop, flat_map, slice_get, pos, ◌+ℤ◌, int_le, int_lt, Option, Some, None, codes}
-use Rattle.std.specs.List.{starts_with, position_from, join_with_byte}
+use Rattle.std.specs.Prelude.{ℕ, suc, ◌+◌, Bool, true, false, ◌&&◌, ◌==◌, if◌then◌else◌, List, [], ◌∷◌, ◌++◌, length, take, drop, flat_map, slice_get, pos, ◌+ℤ◌, int_le, int_lt, Option, Some, None, codes}
+use Rattle.std.specs.List.{position_from, join_with_byte}
 use Rattle.std.specs.Option.{option_to_list}
-use Rattle.text_base.specs.Strings as texts
+use Rattle.text_base.specs.Strings.{is_empty, starts_with}
+use Rattle.text_base.specs.Text.{is_space4}
 use Rattle.xpath_values.specs.declared.value.XNum.{XNum}
 use Rattle.xpath_values.specs.declared.value.XNum.TheVariants.{Whole, NaN}
-use Rattle.xpath_values.specs.Numbers.{is_space4}
 
 abbrev pub text_of_bool : Bool → List ℕ
 text_of_bool true = codes "true"
 text_of_bool false = codes "false"
-
--- the text has no characters
-abbrev pub is_empty : List ℕ → Bool
-is_empty cs = texts.is_empty cs
-
-abbrev pub begins : List ℕ → List ℕ → Bool
-begins s t = starts_with nat_eq s t
 
 abbrev pub one_more : Option ℕ → Option ℕ
 one_more None = None
@@ -25,11 +18,7 @@ one_more (Some i) = Some (suc i)
 -- the first place at which t stands in s
 abbrev pub place_of : List ℕ → List ℕ → Option ℕ
 place_of t [] = if is_empty t then Some 0 else None
-place_of t (c ∷ cs) = if begins (c ∷ cs) t then Some 0 else one_more (place_of t cs)
-
-abbrev pub is_found : Option ℕ → Bool
-is_found None = false
-is_found (Some i) = true
+place_of t (c ∷ cs) = if starts_with (c ∷ cs) t then Some 0 else one_more (place_of t cs)
 
 abbrev pub before_place : Option ℕ → List ℕ → List ℕ
 before_place None s = []
@@ -38,9 +27,6 @@ before_place (Some i) s = take i s
 abbrev pub after_place : Option ℕ → ℕ → List ℕ → List ℕ
 after_place None n s = []
 after_place (Some i) n s = drop (i + n) s
-
-abbrev pub str_contains : List ℕ → List ℕ → Bool
-str_contains s t = is_found (place_of t s)
 
 abbrev pub str_before : List ℕ → List ℕ → List ℕ
 str_before s t = before_place (place_of t s) s

@@ -2,12 +2,12 @@
 -- stands for is said in Numbers.
 use Rattle.std.specs.Prelude.{◌≡◌, ℕ, ◌+◌, ◌-◌, ◌*◌, Bool, true, false, ◌==◌, nat_lt, if◌then◌else◌, List, ℤ, pos, neg_ℤ}
 use Rattle.std.specs.List.{fold}
-use Rattle.text_base.specs.Text.{is_digit}
+use Rattle.text_base.specs.Text.{is_digit, is_space4}
 use Rattle.xpath_values.specs.declared.value.XNum.{XNum}
 use Rattle.xpath_values.specs.declared.value.XNum.TheVariants.{NaN}
 use Rattle.xpath_values.specs.declared.reading.Reading.{Reading}
 use Rattle.xpath_values.specs.declared.reading.Reading.TheVariants as r
-use Rattle.xpath_values.specs.Numbers.{is_space4, largest_whole, whole}
+use Rattle.xpath_values.specs.Numbers.{largest_whole, whole}
 
 abbrev pub is_digit_true : ℕ → Type 0
 is_digit_true c = is_digit c ≡ true
