@@ -5,3 +5,4 @@ pub mod Lexing
 pub mod SpellLemmas
 pub mod TokenLemmas
 pub mod TokenPlaces
+pub mod TokenTexts

@@ -16,6 +16,9 @@ pub mod PlaceLemmas
 pub mod RefusalLemmas
 pub mod SelectingLemmas
 pub mod TableLemmas
+pub mod TextForms
+pub mod TextLists
+pub mod TextPieces
 pub mod ValueFits
 pub mod ValueLemmas
 pub mod WellMadeLemmas

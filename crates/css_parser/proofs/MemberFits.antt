@@ -106,7 +106,7 @@ GivesListRead n inside w i (Some r) = GivesList n inside w i r.list r.end
 abbrev RelativeLayer : Type 0
 RelativeLayer = test_open.Relative-F Test choice.Compound Part Relative Simple
 
-relative_out : (m : Member) → out-Relative (relative_of m) ≡ record { parts = map part_of (out-Member m).parts }
+pub relative_out : (m : Member) → out-Relative (relative_of m) ≡ record { parts = map part_of (out-Member m).parts }
 relative_out m = ap out-Relative (relative_is m) ∙ test_views.out-roll-Relative (record { parts = map part_of (out-Member m).parts })
 
 pub relative_few : (m : Member) → relative_size (relative_of m) ≡ sum_by part_size (map part_of (out-Member m).parts)

@@ -117,6 +117,12 @@ list_kind (s ∷ ss) = either (selector_refusal s) (refusal ss) (selector_kind s
 pub accepted : (text : List ℕ) (ts : List CssToken) (found : List (List Compound)) (list : SelectorList) → Lexes text ts → Reads text ts found → refusal found ≡ None → list ≡ list_of found → Accepts text list
 accepted text ts found list h g r e = record { tokens = ts; spelled = h; found = found; reads = g; allowed = r; is_list = e }
 
+-- the same, where each list was looked at as a slice
+pub accepted_of : (text : List ℕ) (ts us : List CssToken) (found vs ws : List (List Compound)) (o : Option SelectorFault) (list : SelectorList)
+    → Lexes text ts → us ≡ ts → Reads text us found → vs ≡ found → ((o ≡ refusal vs) × (o ≡ None)) → ws ≡ found → list ≡ list_of ws → Accepts text list
+accepted_of text ts us found vs ws o list h e g d r f is =
+    record { tokens = ts; spelled = h; found = found; reads = subst (λ x. Reads text x found) e g; allowed = ap refusal (sym d) ∙ sym r.0 ∙ r.1; is_list = is ∙ ap list_of f }
+
 pub unlexed : (text : List ℕ) (f : SelectorFault) → IsLexed text (Err f) → IsUnlisted text f
 unlexed text fault.Long h = h
 unlexed text fault.Text h = h

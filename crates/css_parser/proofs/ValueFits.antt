@@ -334,7 +334,7 @@ part_out x = ap out-Part (part_is x) ∙ test_views.out-roll-Part (record { link
 pub part_link : (x : Inner) → (out-Part (part_of x)).link ≡ (out-Inner x).link
 part_link x = ap (λ (d : PartLayer). d.link) (part_out x)
 
-compound_out : (x : Inner) → choice.out-Compound (compound_of x) ≡ record { element = (out-Inner x).element; simples = flat_map form_simples (out-Inner x).forms }
+pub compound_out : (x : Inner) → choice.out-Compound (compound_of x) ≡ record { element = (out-Inner x).element; simples = flat_map form_simples (out-Inner x).forms }
 compound_out x = ap choice.out-Compound (compound_is x) ∙ test_views.out-roll-Compound (record { element = (out-Inner x).element; simples = flat_map form_simples (out-Inner x).forms })
 
 part_few : (x : Inner) → part_size (part_of x) ≡ 1 + sum_by simple_size (flat_map form_simples (out-Inner x).forms)

@@ -5,8 +5,7 @@ use Rattle.std.proofs.lemmas.List.Elements.{All-nil, All-cons}
 use Rattle.std.proofs.lemmas.List.Sums.{sum_by-cons}
 use Rattle.css_lexer.proofs.TokenPlaces.{few_tokens}
 use Rattle.css_lexer.specs.declared.tokens.CssToken.{CssToken}
-use Rattle.css_lexer.specs.Tokens.{Lexes, most_selector}
-use Rattle.text_base.specs.declared.reasons.SelectorFault.{SelectorFault}
+use Rattle.css_lexer.specs.Tokens.{most_selector}
 use Rattle.css_selectors.specs.declared.selector.Compound as choice
 use Rattle.css_selectors.specs.declared.selector.Link.TheVariants as link
 use Rattle.css_selectors.specs.declared.selector.Part.{Part, out-Part}
@@ -44,7 +43,7 @@ use Rattle.css_parser.proofs.LinkLemmas.{joined}
 abbrev PartLayer : Type 0
 PartLayer = test_open.Part-F Test choice.Compound Part Relative Simple
 
-part_is : (c : Compound) → out-Part (part_of c) ≡ record { link = c.link; element = c.element; simples = flat_map form_simples c.forms }
+pub part_is : (c : Compound) → out-Part (part_of c) ≡ record { link = c.link; element = c.element; simples = flat_map form_simples c.forms }
 part_is c = test_views.out-roll-Part (record { link = c.link; element = c.element; simples = flat_map form_simples c.forms })
 
 part_link : (c : Compound) → (out-Part (part_of c)).link ≡ c.link
@@ -168,9 +167,3 @@ module _ (text : List ℕ) (ts : List CssToken) where
 
 pub well_made : (text : List ℕ) (list : SelectorList) → Accepts text list → WellMade list
 well_made text list h = subst WellMade (sym h.is_list) (list_made text h.tokens h.found (few_tokens text h.tokens h.spelled) h.reads h.allowed)
-
--- the same, where each list was looked at as a slice
-pub made_of : (text : List ℕ) (ts us : List CssToken) (found vs ws : List (List Compound)) (o : Option SelectorFault) (list : SelectorList)
-    → Lexes text ts → us ≡ ts → Reads text us found → vs ≡ found → ((o ≡ refusal vs) × (o ≡ None)) → ws ≡ found → list ≡ list_of ws → WellMade list
-made_of text ts us found vs ws o list h e g d r f is =
-    well_made text list (record { tokens = ts; spelled = h; found = found; reads = subst (λ x. Reads text x found) e g; allowed = ap refusal (sym d) ∙ sym r.0 ∙ r.1; is_list = is ∙ ap list_of f })

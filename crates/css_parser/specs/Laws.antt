@@ -1,7 +1,9 @@
 -- What holds of all texts.
 use Rattle.std.specs.Prelude.{◌≡◌, ◌⊎◌, Bool, ℕ, ◌+◌, ◌≤◌, List, length, Option, Some, None}
+use Rattle.std.specs.Str.{IsUtf8}
 use Rattle.css_lexer.specs.declared.tokens.CssToken.{CssToken}
 use Rattle.css_selectors.specs.declared.selector.SelectorList.{SelectorList}
+use Rattle.css_selectors.specs.Texts.{AreTexts}
 use Rattle.css_selectors.specs.WellMade.{WellMade}
 use Rattle.text_base.specs.declared.reasons.SelectorFault.{SelectorFault}
 use Rattle.css_parser.specs.declared.pieces.FormRead.{FormRead}
@@ -27,6 +29,10 @@ HasListOrFault = (text : List ℕ) → ((list : SelectorList) × Accepts text li
 -- every accepted list is well made
 abbrev pub IsWellMade : Type 0
 IsWellMade = (text : List ℕ) (list : SelectorList) → Accepts text list → WellMade list
+
+-- every list that is accepted of a text in UTF-8 has texts alone
+abbrev pub HasTexts : Type 0
+HasTexts = (text : List ℕ) (list : SelectorList) → IsUtf8 text → Accepts text list → AreTexts list
 
 -- the grammar has no depth: a choice is read by what stands in it, which is read in the same way
 abbrev pub IsReadAlike : Type 0

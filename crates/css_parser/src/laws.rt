@@ -1,6 +1,7 @@
-ghost use Rattle.css_parser.specs.Laws.{HasListOrFault, HasOneReading, HasOneFault, IsListOrFault, IsReadAlike, IsWellMade, KeepsEnds};
+ghost use Rattle.css_parser.specs.Laws.{HasListOrFault, HasOneReading, HasOneFault, HasTexts, IsListOrFault, IsReadAlike, IsWellMade, KeepsEnds};
 
-/// Each text is accepted as one list, which is well made, or has one fault, and not both.
+/// Each text is accepted as one list, which is well made, or has one fault, and not both. The names
+/// and values of a list that is accepted of a text in UTF-8 are texts.
 #[tactic(auto, using(crate::proofs::SelectingLemmas::one_fault))]
 pub fn one_list_or_fault()
     ensures one_list { HasOneReading }
@@ -8,6 +9,7 @@ pub fn one_list_or_fault()
     ensures not_both { IsListOrFault }
     ensures some { HasListOrFault }
     ensures well_made { IsWellMade }
+    ensures texts { HasTexts }
 {}
 
 /// The grammar of choices has no depth. Whether a choice is read, and where it ends, depends on what

@@ -1,4 +1,5 @@
 ghost use Rattle.std.specs.Prelude.{◌≡◌, IfOk, IfErr};
+ghost use Rattle.css_selectors.specs.Texts.{AreTexts};
 ghost use Rattle.css_selectors.specs.WellMade.{WellMade};
 ghost use Rattle.css_parser.specs.Selecting.{Accepts, IsUnlisted};
 
@@ -26,6 +27,7 @@ use text_base::SelectorFault;
 pub fn parse_selectors(alloc: Global, text: &str) -> Result<SelectorList, SelectorFault>
     ensures ok { IfOk result (Accepts text.now) }
     ensures well_made { IfOk result WellMade }
+    ensures texts { IfOk result AreTexts }
     ensures fault { IfErr result (IsUnlisted text.now) }
 {
     let tokens = match css_tokens(alloc, text) {
