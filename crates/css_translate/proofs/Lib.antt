@@ -1,3 +1,4 @@
+pub mod Accepted
 pub mod Further
 pub mod Pushes
 pub mod Said

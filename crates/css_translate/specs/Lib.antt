@@ -1,1 +1,2 @@
+pub mod AcceptedLaw
 pub mod inner

@@ -1,8 +1,11 @@
-ghost use Rattle.std.specs.Prelude.{◌≡◌, ◌++◌, OnOk, string_bytes, flat_map, map, codes};
+ghost use Rattle.std.specs.Prelude.{◌≡◌, ◌++◌, true, OnOk, string_bytes, flat_map, map, codes};
+ghost use Rattle.std.specs.List.{AllByRecursion};
+ghost use Rattle.css_selectors.specs.Texts.{test_texts};
 ghost use Rattle.css_selectors.specs.WellMade.{innermost};
 ghost use Rattle.css_printed.specs.Names.{element_text};
 ghost use Rattle.css_printed.specs.TestTexts.{choice, path_text, test_said, compound_text, part_steps, relative_text, simple_text};
 ghost use Rattle.css_translate.specs.inner.Pieces.{link_text, or_text, step_at};
+ghost use Rattle.css_translate.specs.inner.Read.{IsReadSimple, IsReadCompound, IsReadPart, IsReadRelative};
 
 use crate::languages::push_lang;
 use crate::names::push_element;
@@ -13,6 +16,7 @@ use crate::simples::{
     push_attribute_test, push_class, push_contains, push_id, push_named, push_self,
 };
 use crate::steps::push_link;
+use crate::texts::{read, read_both, read_element};
 use css_selectors::{Compound, Dialect, Link, Part, Relative, Simple, Test};
 use std::alloc::Global;
 use text_base::{NoMemory, Txt};
@@ -29,7 +33,7 @@ fn innermost<'a>(around: &'a Option<Txt>, element: &'a Option<Txt>) -> &'a Optio
 
 /// Appends the predicates of a test that is not negated.
 #[cycle(printing)]
-#[tactic(auto, using(crate::proofs::Said::brackets_element, crate::proofs::Said::brackets_id, crate::proofs::Said::brackets_class, crate::proofs::Said::brackets_attr, crate::proofs::Said::brackets_nth, crate::proofs::Said::brackets_pseudo, crate::proofs::Said::brackets_contains, crate::proofs::Said::brackets_lang, crate::proofs::Said::brackets_any, crate::proofs::Said::brackets_has))]
+#[tactic(auto, using(crate::proofs::Said::brackets_element, crate::proofs::Said::brackets_id, crate::proofs::Said::brackets_class, crate::proofs::Said::brackets_attr, crate::proofs::Said::brackets_nth, crate::proofs::Said::brackets_pseudo, crate::proofs::Said::brackets_contains, crate::proofs::Said::brackets_lang, crate::proofs::Said::brackets_any, crate::proofs::Said::brackets_has, crate::proofs::TextLemmas::already, crate::proofs::TextLemmas::read_element, crate::proofs::TextLemmas::read_id, crate::proofs::TextLemmas::read_class, crate::proofs::TextLemmas::read_attr, crate::proofs::TextLemmas::read_contains, crate::proofs::TextLemmas::read_lang, crate::proofs::TextLemmas::read_any, crate::proofs::TextLemmas::read_has, css_selectors::proofs::TextsAt::at_nth, css_selectors::proofs::TextsAt::at_pseudo))]
 fn push_brackets(
     alloc: Global,
     out: &mut String,
@@ -37,17 +41,36 @@ fn push_brackets(
     around: &Option<Txt>,
     test: &Test,
 ) -> Result<(), NoMemory>
-    ensures { OnOk result (string_bytes out.new ≡ string_bytes out.old ++ (test_said dialect test.now around.now).brackets) }
+    ensures text { OnOk result (string_bytes out.new ≡ string_bytes out.old ++ (test_said dialect test.now around.now).brackets) }
+    ensures texts { OnOk result (test_texts test.now ≡ true) }
 {
     match test {
-        Test::Element(name) => push_named(alloc, out, dialect, name),
-        Test::Id(value) => push_id(out, value),
-        Test::Class(value) => push_class(alloc, out, dialect, value),
-        Test::Attr(name, op, value) => push_attribute_test(alloc, out, dialect, name, *op, value),
+        Test::Element(name) => {
+            read_element(name);
+            push_named(alloc, out, dialect, name)
+        }
+        Test::Id(value) => {
+            read(value);
+            push_id(out, value)
+        }
+        Test::Class(value) => {
+            read(value);
+            push_class(alloc, out, dialect, value)
+        }
+        Test::Attr(name, op, value) => {
+            read_both(name, value);
+            push_attribute_test(alloc, out, dialect, name, *op, value)
+        }
         Test::Nth(kind, a, b) => push_position(alloc, out, dialect, around, kind, a, b),
         Test::Pseudo(which) => push_pseudo(alloc, out, dialect, around, *which),
-        Test::Contains(value) => push_contains(out, value),
-        Test::Lang(tag) => push_lang(alloc, out, dialect, tag),
+        Test::Contains(value) => {
+            read(value);
+            push_contains(out, value)
+        }
+        Test::Lang(tag) => {
+            read(tag);
+            push_lang(alloc, out, dialect, tag)
+        }
         Test::Any(_, list) => push_any(alloc, out, dialect, around, list.as_slice()),
         Test::Has(list) => push_has(alloc, out, dialect, list.as_slice()),
     }
@@ -55,6 +78,7 @@ fn push_brackets(
 
 /// A choice in brackets.
 #[cycle(printing)]
+#[tactic(auto, using(crate::proofs::TextLemmas::already))]
 fn push_any(
     alloc: Global,
     out: &mut String,
@@ -62,7 +86,8 @@ fn push_any(
     around: &Option<Txt>,
     compounds: &[Compound],
 ) -> Result<(), NoMemory>
-    ensures { OnOk result (string_bytes out.new ≡ string_bytes out.old ++ (codes "[" ++ (choice (map (λ c. compound_text dialect c around.now) compounds.now) ++ codes "]"))) }
+    ensures text { OnOk result (string_bytes out.new ≡ string_bytes out.old ++ (codes "[" ++ (choice (map (λ c. compound_text dialect c around.now) compounds.now) ++ codes "]"))) }
+    ensures texts { OnOk result (AllByRecursion IsReadCompound compounds.now) }
 {
     push(out, "[")?;
     push_choice(alloc, out, dialect, around, compounds)?;
@@ -78,7 +103,8 @@ fn push_itself(
     around: &Option<Txt>,
     test: &Test,
 ) -> Result<(), NoMemory>
-    ensures { OnOk result (string_bytes out.new ≡ string_bytes out.old ++ (codes "self::*" ++ (test_said dialect test.now around.now).brackets)) }
+    ensures text { OnOk result (string_bytes out.new ≡ string_bytes out.old ++ (codes "self::*" ++ (test_said dialect test.now around.now).brackets)) }
+    ensures texts { OnOk result (test_texts test.now ≡ true) }
 {
     push(out, "self::*")?;
     push_brackets(alloc, out, dialect, around, test)
@@ -86,7 +112,7 @@ fn push_itself(
 
 /// Appends what stands in the negation of a test.
 #[cycle(printing)]
-#[tactic(auto, using(crate::proofs::Said::inside_element, crate::proofs::Said::inside_id, crate::proofs::Said::inside_class, crate::proofs::Said::inside_attr, crate::proofs::Said::inside_nth, crate::proofs::Said::inside_pseudo, crate::proofs::Said::inside_contains, crate::proofs::Said::inside_lang, crate::proofs::Said::inside_any, crate::proofs::Said::inside_has))]
+#[tactic(auto, using(crate::proofs::Said::inside_element, crate::proofs::Said::inside_id, crate::proofs::Said::inside_class, crate::proofs::Said::inside_attr, crate::proofs::Said::inside_nth, crate::proofs::Said::inside_pseudo, crate::proofs::Said::inside_contains, crate::proofs::Said::inside_lang, crate::proofs::Said::inside_any, crate::proofs::Said::inside_has, crate::proofs::TextLemmas::already, crate::proofs::TextLemmas::read_element, crate::proofs::TextLemmas::read_any))]
 fn push_inside(
     alloc: Global,
     out: &mut String,
@@ -94,10 +120,14 @@ fn push_inside(
     around: &Option<Txt>,
     test: &Test,
 ) -> Result<(), NoMemory>
-    ensures { OnOk result (string_bytes out.new ≡ string_bytes out.old ++ (test_said dialect test.now around.now).inside) }
+    ensures text { OnOk result (string_bytes out.new ≡ string_bytes out.old ++ (test_said dialect test.now around.now).inside) }
+    ensures texts { OnOk result (test_texts test.now ≡ true) }
 {
     match test {
-        Test::Element(name) => push_self(alloc, out, dialect, name),
+        Test::Element(name) => {
+            read_element(name);
+            push_self(alloc, out, dialect, name)
+        }
         Test::Id(_) => push_itself(alloc, out, dialect, around, test),
         Test::Class(_) => push_itself(alloc, out, dialect, around, test),
         Test::Attr(_, _, _) => push_itself(alloc, out, dialect, around, test),
@@ -112,6 +142,7 @@ fn push_inside(
 
 /// `[not(..)]`
 #[cycle(printing)]
+#[tactic(auto, using(crate::proofs::TextLemmas::already))]
 fn push_negated(
     alloc: Global,
     out: &mut String,
@@ -119,7 +150,8 @@ fn push_negated(
     around: &Option<Txt>,
     test: &Test,
 ) -> Result<(), NoMemory>
-    ensures { OnOk result (string_bytes out.new ≡ string_bytes out.old ++ (codes "[not(" ++ ((test_said dialect test.now around.now).inside ++ codes ")]"))) }
+    ensures text { OnOk result (string_bytes out.new ≡ string_bytes out.old ++ (codes "[not(" ++ ((test_said dialect test.now around.now).inside ++ codes ")]"))) }
+    ensures texts { OnOk result (test_texts test.now ≡ true) }
 {
     push(out, "[not(")?;
     push_inside(alloc, out, dialect, around, test)?;
@@ -129,7 +161,7 @@ fn push_negated(
 /// Appends the predicates of a simple selector, where the innermost compound around it that has an
 /// element has this one.
 #[cycle(printing)]
-#[tactic(auto, using(crate::proofs::Said::at_negated, crate::proofs::Said::at_plain))]
+#[tactic(auto, using(crate::proofs::Said::at_negated, crate::proofs::Said::at_plain, crate::proofs::TextLemmas::read_simple))]
 fn push_simple(
     alloc: Global,
     out: &mut String,
@@ -137,7 +169,8 @@ fn push_simple(
     around: &Option<Txt>,
     simple: &Simple,
 ) -> Result<(), NoMemory>
-    ensures { OnOk result (string_bytes out.new ≡ string_bytes out.old ++ simple_text dialect simple.now around.now) }
+    ensures text { OnOk result (string_bytes out.new ≡ string_bytes out.old ++ simple_text dialect simple.now around.now) }
+    ensures texts { OnOk result (IsReadSimple simple.now) }
 {
     if simple.negated {
         push_negated(alloc, out, dialect, around, &simple.test)
@@ -155,7 +188,8 @@ pub fn push_simples(
     around: &Option<Txt>,
     simples: &[Simple],
 ) -> Result<(), NoMemory>
-    ensures { OnOk result (string_bytes out.new ≡ string_bytes out.old ++ flat_map (λ x. simple_text dialect x around.now) simples.now) }
+    ensures text { OnOk result (string_bytes out.new ≡ string_bytes out.old ++ flat_map (λ x. simple_text dialect x around.now) simples.now) }
+    ensures texts { OnOk result (AllByRecursion IsReadSimple simples.now) }
 {
     for simple in simples {
         push_simple(alloc, out, dialect, around, simple)?;
@@ -173,7 +207,8 @@ fn push_self_and(
     element: &Option<Txt>,
     simples: &[Simple],
 ) -> Result<(), NoMemory>
-    ensures { OnOk result (string_bytes out.new ≡ string_bytes out.old ++ (codes "self::" ++ (element_text dialect element.now ++ flat_map (λ x. simple_text dialect x (innermost around.now element.now)) simples.now))) }
+    ensures text { OnOk result (string_bytes out.new ≡ string_bytes out.old ++ (codes "self::" ++ (element_text dialect element.now ++ flat_map (λ x. simple_text dialect x (innermost around.now element.now)) simples.now))) }
+    ensures texts { OnOk result (AllByRecursion IsReadSimple simples.now) }
 {
     push(out, "self::")?;
     push_element(alloc, out, dialect, element)?;
@@ -181,7 +216,7 @@ fn push_self_and(
 }
 
 #[cycle(printing)]
-#[tactic(auto, using(css_printed::proofs::PrintedAt::text_at_compound))]
+#[tactic(auto, using(css_printed::proofs::PrintedAt::text_at_compound, crate::proofs::TextLemmas::read_compound))]
 fn push_compound(
     alloc: Global,
     out: &mut String,
@@ -189,8 +224,10 @@ fn push_compound(
     around: &Option<Txt>,
     compound: &Compound,
 ) -> Result<(), NoMemory>
-    ensures { OnOk result (string_bytes out.new ≡ string_bytes out.old ++ compound_text dialect compound.now around.now) }
+    ensures text { OnOk result (string_bytes out.new ≡ string_bytes out.old ++ compound_text dialect compound.now around.now) }
+    ensures texts { OnOk result (IsReadCompound compound.now) }
 {
+    read_element(&compound.element);
     push_self_and(
         alloc,
         out,
@@ -218,7 +255,8 @@ fn push_operand(
     is_first: bool,
     compound: &Compound,
 ) -> Result<(), NoMemory>
-    ensures { OnOk result (string_bytes out.new ≡ string_bytes out.old ++ (or_text is_first ++ compound_text dialect compound.now around.now)) }
+    ensures text { OnOk result (string_bytes out.new ≡ string_bytes out.old ++ (or_text is_first ++ compound_text dialect compound.now around.now)) }
+    ensures texts { OnOk result (IsReadCompound compound.now) }
 {
     push_or(out, is_first)?;
     push_compound(alloc, out, dialect, around, compound)
@@ -233,7 +271,8 @@ fn push_choice(
     around: &Option<Txt>,
     compounds: &[Compound],
 ) -> Result<(), NoMemory>
-    ensures { OnOk result (string_bytes out.new ≡ string_bytes out.old ++ choice (map (λ c. compound_text dialect c around.now) compounds.now)) }
+    ensures text { OnOk result (string_bytes out.new ≡ string_bytes out.old ++ choice (map (λ c. compound_text dialect c around.now) compounds.now)) }
+    ensures texts { OnOk result (AllByRecursion IsReadCompound compounds.now) }
 {
     let mut is_first = true;
     for compound in compounds {
@@ -254,7 +293,8 @@ fn push_step_and(
     element: &Option<Txt>,
     simples: &[Simple],
 ) -> Result<(), NoMemory>
-    ensures { OnOk result (string_bytes out.new ≡ string_bytes out.old ++ (link_text dialect is_first link element.now ++ flat_map (λ x. simple_text dialect x element.now) simples.now)) }
+    ensures text { OnOk result (string_bytes out.new ≡ string_bytes out.old ++ (link_text dialect is_first link element.now ++ flat_map (λ x. simple_text dialect x element.now) simples.now)) }
+    ensures texts { OnOk result (AllByRecursion IsReadSimple simples.now) }
 {
     push_link(alloc, out, dialect, is_first, link, element)?;
     push_simples(alloc, out, dialect, element, simples)
@@ -262,7 +302,7 @@ fn push_step_and(
 
 /// Appends a part, which is the first of a relative or stands behind another.
 #[cycle(printing)]
-#[tactic(auto, using(crate::proofs::Said::at_part))]
+#[tactic(auto, using(crate::proofs::Said::at_part, crate::proofs::TextLemmas::read_part))]
 pub fn push_part(
     alloc: Global,
     out: &mut String,
@@ -270,8 +310,10 @@ pub fn push_part(
     is_first: bool,
     part: &Part,
 ) -> Result<(), NoMemory>
-    ensures { OnOk result (string_bytes out.new ≡ string_bytes out.old ++ step_at is_first (part_steps dialect part.now)) }
+    ensures text { OnOk result (string_bytes out.new ≡ string_bytes out.old ++ step_at is_first (part_steps dialect part.now)) }
+    ensures texts { OnOk result (IsReadPart part.now) }
 {
+    read_element(&part.element);
     push_step_and(
         alloc,
         out,
@@ -291,7 +333,8 @@ fn push_path(
     dialect: Dialect,
     parts: &[Part],
 ) -> Result<(), NoMemory>
-    ensures { OnOk result (string_bytes out.new ≡ string_bytes out.old ++ path_text (map (part_steps dialect) parts.now)) }
+    ensures text { OnOk result (string_bytes out.new ≡ string_bytes out.old ++ path_text (map (part_steps dialect) parts.now)) }
+    ensures texts { OnOk result (AllByRecursion IsReadPart parts.now) }
 {
     let mut is_first = true;
     for part in parts {
@@ -302,14 +345,15 @@ fn push_path(
 }
 
 #[cycle(printing)]
-#[tactic(auto, using(css_printed::proofs::PrintedAt::text_at_relative))]
+#[tactic(auto, using(css_printed::proofs::PrintedAt::text_at_relative, crate::proofs::TextLemmas::read_relative))]
 fn push_relative(
     alloc: Global,
     out: &mut String,
     dialect: Dialect,
     relative: &Relative,
 ) -> Result<(), NoMemory>
-    ensures { OnOk result (string_bytes out.new ≡ string_bytes out.old ++ relative_text dialect relative.now) }
+    ensures text { OnOk result (string_bytes out.new ≡ string_bytes out.old ++ relative_text dialect relative.now) }
+    ensures texts { OnOk result (IsReadRelative relative.now) }
 {
     push_path(alloc, out, dialect, relative.parts.as_slice())
 }
@@ -323,7 +367,8 @@ fn push_alternative(
     is_first: bool,
     relative: &Relative,
 ) -> Result<(), NoMemory>
-    ensures { OnOk result (string_bytes out.new ≡ string_bytes out.old ++ (or_text is_first ++ relative_text dialect relative.now)) }
+    ensures text { OnOk result (string_bytes out.new ≡ string_bytes out.old ++ (or_text is_first ++ relative_text dialect relative.now)) }
+    ensures texts { OnOk result (IsReadRelative relative.now) }
 {
     push_or(out, is_first)?;
     push_relative(alloc, out, dialect, relative)
@@ -337,7 +382,8 @@ fn push_relatives(
     dialect: Dialect,
     relatives: &[Relative],
 ) -> Result<(), NoMemory>
-    ensures { OnOk result (string_bytes out.new ≡ string_bytes out.old ++ choice (map (relative_text dialect) relatives.now)) }
+    ensures text { OnOk result (string_bytes out.new ≡ string_bytes out.old ++ choice (map (relative_text dialect) relatives.now)) }
+    ensures texts { OnOk result (AllByRecursion IsReadRelative relatives.now) }
 {
     let mut is_first = true;
     for relative in relatives {
@@ -349,13 +395,15 @@ fn push_relatives(
 
 /// Relatives in brackets.
 #[cycle(printing)]
+#[tactic(auto, using(crate::proofs::TextLemmas::already))]
 fn push_has(
     alloc: Global,
     out: &mut String,
     dialect: Dialect,
     relatives: &[Relative],
 ) -> Result<(), NoMemory>
-    ensures { OnOk result (string_bytes out.new ≡ string_bytes out.old ++ (codes "[" ++ (choice (map (relative_text dialect) relatives.now) ++ codes "]"))) }
+    ensures text { OnOk result (string_bytes out.new ≡ string_bytes out.old ++ (codes "[" ++ (choice (map (relative_text dialect) relatives.now) ++ codes "]"))) }
+    ensures texts { OnOk result (AllByRecursion IsReadRelative relatives.now) }
 {
     push(out, "[")?;
     push_relatives(alloc, out, dialect, relatives)?;

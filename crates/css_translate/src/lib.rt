@@ -4,6 +4,7 @@
 mod attributes;
 mod choices;
 mod languages;
+mod laws;
 mod literals;
 mod names;
 mod positions;
@@ -14,5 +15,6 @@ mod simples;
 mod steps;
 mod texts;
 
+pub use laws::accepted_lists_keep_meaning;
 pub use literals::literal;
 pub use printing::translate;

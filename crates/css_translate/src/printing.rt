@@ -1,14 +1,18 @@
-ghost use Rattle.std.specs.Prelude.{◌≡◌, ◌++◌, ◌≤◌, ◌<◌, ◌⊎◌, OnOk, IfOk, IfErr, flat_map, map, length, string_bytes};
+ghost use Rattle.std.specs.Prelude.{◌≡◌, ◌++◌, true, ◌≤◌, ◌<◌, ◌⊎◌, OnOk, IfOk, IfErr, flat_map, map, length, string_bytes};
+ghost use Rattle.std.specs.List.{AllByRecursion};
+ghost use Rattle.css_selectors.specs.Texts as selectors;
+ghost use Rattle.css_selectors.specs.Texts.{AreTexts};
 ghost use Rattle.css_selectors.specs.WellMade.{WellMade};
 ghost use Rattle.css_printed.specs.Printed.{joined, tail_text, parts_text, selector_text, printed};
 ghost use Rattle.css_printed.specs.Promise.{KeepsMeaning};
 ghost use Rattle.css_translate.specs.inner.Pieces.{further_text};
+ghost use Rattle.css_translate.specs.inner.Read.{IsReadPart, IsReadSelector};
 ghost use Rattle.xpath_lexer.specs.Places.{most_xpath};
 
 use crate::choices::push_part;
 use crate::names::push_attribute;
 use crate::pushing::push;
-use crate::texts::read_list;
+use crate::texts::read;
 use css_selectors::{Dialect, Part, Selector, SelectorList, Tail};
 use std::alloc::Global;
 use text_base::{NoMemory, SelectorFault};
@@ -20,7 +24,8 @@ fn push_parts(
     dialect: Dialect,
     parts: &[Part],
 ) -> Result<(), NoMemory>
-    ensures { OnOk result (string_bytes out.new ≡ string_bytes out.old ++ parts_text dialect parts.now) }
+    ensures text { OnOk result (string_bytes out.new ≡ string_bytes out.old ++ parts_text dialect parts.now) }
+    ensures texts { OnOk result (AllByRecursion IsReadPart parts.now) }
 {
     for part in parts {
         push_part(alloc, out, dialect, false, part)?;
@@ -29,26 +34,31 @@ fn push_parts(
 }
 
 /// Appends the step to the rows that a selector gives: `/text()` or `/@name`, where it does not give the elements.
+#[tactic(auto, using(crate::proofs::TextLemmas::already))]
 fn push_tail(alloc: Global, out: &mut String, dialect: Dialect, tail: &Tail) -> Result<(), NoMemory>
-    ensures { OnOk result (string_bytes out.new ≡ string_bytes out.old ++ tail_text dialect tail.now) }
+    ensures text { OnOk result (string_bytes out.new ≡ string_bytes out.old ++ tail_text dialect tail.now) }
+    ensures texts { OnOk result (selectors.tail_text tail.now ≡ true) }
 {
     match tail {
         Tail::Element => Ok(()),
         Tail::Text => push(out, "/text()"),
         Tail::Attr(name) => {
+            read(name);
             push(out, "/")?;
             push_attribute(alloc, out, dialect, name)
         }
     }
 }
 
+#[tactic(auto, using(crate::proofs::TextLemmas::read_selector))]
 fn push_selector(
     alloc: Global,
     out: &mut String,
     dialect: Dialect,
     selector: &Selector,
 ) -> Result<(), NoMemory>
-    ensures { OnOk result (string_bytes out.new ≡ string_bytes out.old ++ selector_text dialect selector.now) }
+    ensures text { OnOk result (string_bytes out.new ≡ string_bytes out.old ++ selector_text dialect selector.now) }
+    ensures texts { OnOk result (IsReadSelector selector.now) }
 {
     push_parts(alloc, out, dialect, selector.parts.as_slice())?;
     push_tail(alloc, out, dialect, &selector.tail)
@@ -61,7 +71,8 @@ fn push_one_further(
     dialect: Dialect,
     selector: &Selector,
 ) -> Result<(), NoMemory>
-    ensures { OnOk result (string_bytes out.new ≡ string_bytes out.old ++ further_text dialect selector.now) }
+    ensures text { OnOk result (string_bytes out.new ≡ string_bytes out.old ++ further_text dialect selector.now) }
+    ensures texts { OnOk result (IsReadSelector selector.now) }
 {
     push(out, " | ")?;
     push_selector(alloc, out, dialect, selector)
@@ -73,7 +84,8 @@ fn push_further(
     dialect: Dialect,
     selectors: &[Selector],
 ) -> Result<(), NoMemory>
-    ensures { OnOk result (string_bytes out.new ≡ string_bytes out.old ++ flat_map (further_text dialect) selectors.now) }
+    ensures text { OnOk result (string_bytes out.new ≡ string_bytes out.old ++ flat_map (further_text dialect) selectors.now) }
+    ensures texts { OnOk result (AllByRecursion IsReadSelector selectors.now) }
 {
     for selector in selectors {
         push_one_further(alloc, out, dialect, selector)?;
@@ -87,7 +99,8 @@ fn push_list(
     dialect: Dialect,
     selectors: &[Selector],
 ) -> Result<(), NoMemory>
-    ensures { OnOk result (string_bytes out.new ≡ string_bytes out.old ++ joined (map (selector_text dialect) selectors.now)) }
+    ensures text { OnOk result (string_bytes out.new ≡ string_bytes out.old ++ joined (map (selector_text dialect) selectors.now)) }
+    ensures texts { OnOk result (AllByRecursion IsReadSelector selectors.now) }
 {
     match selectors.split_first() {
         None => Ok(()),
@@ -98,8 +111,10 @@ fn push_list(
     }
 }
 
+#[tactic(auto, using(crate::proofs::TextLemmas::are_texts))]
 fn print_list(alloc: Global, dialect: Dialect, list: &SelectorList) -> Result<String, NoMemory>
-    ensures { IfOk result (λ t. string_bytes t ≡ printed dialect list.now) }
+    ensures text { IfOk result (λ t. string_bytes t ≡ printed dialect list.now) }
+    ensures texts { OnOk result (AreTexts list.now) }
 {
     let mut out = String::new(alloc);
     push_list(alloc, &mut out, dialect, list.items.as_slice())?;
@@ -120,7 +135,6 @@ pub fn translate(
     ensures fault { IfErr result (λ e. (e ≡ SelectorFault.Memory) ⊎ (e ≡ SelectorFault.XPathLong)) }
     ensures long { result ≡ Err SelectorFault.XPathLong → most_xpath < length (printed dialect list.now) }
 {
-    read_list(list);
     match print_list(alloc, dialect, list) {
         Ok(text) => {
             if text.len() > XPATH_LIMIT {

@@ -1,12 +1,15 @@
-use Rattle.std.proofs.Common.{◌≡◌, sym, ◌∙◌, ap, ℕ, Bool, ◌+◌, ◌++◌, ◌∷◌, [], take, map, append_assoc, string_bytes, List}
+use Rattle.std.proofs.Common.{◌≡◌, sym, ◌∙◌, ap, subst, ℕ, Bool, ◌+◌, ◌++◌, ◌∷◌, [], take, map, append_assoc, string_bytes, List}
 use Rattle.std.proofs.lemmas.List.{take_more}
+use Rattle.std.specs.List.{AllByRecursion}
 use Rattle.css_selectors.specs.declared.selector.Compound.{Compound}
 use Rattle.css_selectors.specs.declared.selector.Part.{Part}
 use Rattle.css_selectors.specs.declared.selector.Relative.{Relative}
 use Rattle.css_printed.specs.TestTexts.{choice, path_text, test_said, compound_text, part_steps, relative_text}
 use Rattle.css_translate.specs.inner.Pieces.{or_text, step_at}
+use Rattle.css_translate.specs.inner.Read.{IsReadCompound, IsReadPart, IsReadRelative}
 use Rattle.css_translate.proofs.Pushes.{same_piece}
 use Rattle.css_translate.proofs.Said as said
+use Rattle.css_translate.proofs.TextLemmas.{grown}
 use Rattle.css_translate.proofs.choices.+printing.Goals as goal
 
 -- one alternative more of a loop
@@ -24,11 +27,13 @@ push_choice-loop-compound-preserved t c =
     let i = c.loop-compound.compound-index in
     let x = c.compound-item.result in
     let more : take (i + 1) xs ≡ take i xs ++ x ∷ [] = take_more xs i x c.loop-compound-test.true ∙ ap (λ v. take i xs ++ v ∷ []) (sym c.compound-item.is) in
-    let text = λ (y : Compound). compound_text c.args.dialect y c.args.around.now in (
-      grows text _ _ _ _ (take i xs) x c.loop-compound.invariant.0 c.loop-compound.invariant.1 c.in_ok-push_operand.ensures
-          ∙ ap (λ (ys : List Compound). string_bytes c.args.out.now ++ choice (map text ys)) (sym more),
-      said.not_nil (take i xs) x ∙ ap said.is_nil (sym more),
-    )
+    let text = λ (y : Compound). compound_text c.args.dialect y c.args.around.now in
+    record {
+      text = grows text _ _ _ _ (take i xs) x c.loop-compound.invariant.text c.loop-compound.invariant.first c.in_ok-push_operand.ensures.text
+          ∙ ap (λ (ys : List Compound). string_bytes c.args.out.now ++ choice (map text ys)) (sym more);
+      first = said.not_nil (take i xs) x ∙ ap said.is_nil (sym more);
+      texts = subst (AllByRecursion IsReadCompound) (sym more) (grown IsReadCompound (take i xs) x c.loop-compound.invariant.texts c.in_ok-push_operand.ensures.texts);
+    }
 
 pub push_relatives-loop-relative-preserved : goal.push_relatives-loop-relative-preserved
 push_relatives-loop-relative-preserved t c =
@@ -36,11 +41,13 @@ push_relatives-loop-relative-preserved t c =
     let i = c.loop-relative.relative-index in
     let x = c.relative-item.result in
     let more : take (i + 1) xs ≡ take i xs ++ x ∷ [] = take_more xs i x c.loop-relative-test.true ∙ ap (λ v. take i xs ++ v ∷ []) (sym c.relative-item.is) in
-    let text = relative_text c.args.dialect in (
-      grows text _ _ _ _ (take i xs) x c.loop-relative.invariant.0 c.loop-relative.invariant.1 c.in_ok-push_alternative.ensures
-          ∙ ap (λ (ys : List Relative). string_bytes c.args.out.now ++ choice (map text ys)) (sym more),
-      said.not_nil (take i xs) x ∙ ap said.is_nil (sym more),
-    )
+    let text = relative_text c.args.dialect in
+    record {
+      text = grows text _ _ _ _ (take i xs) x c.loop-relative.invariant.text c.loop-relative.invariant.first c.in_ok-push_alternative.ensures.text
+          ∙ ap (λ (ys : List Relative). string_bytes c.args.out.now ++ choice (map text ys)) (sym more);
+      first = said.not_nil (take i xs) x ∙ ap said.is_nil (sym more);
+      texts = subst (AllByRecursion IsReadRelative) (sym more) (grown IsReadRelative (take i xs) x c.loop-relative.invariant.texts c.in_ok-push_alternative.ensures.texts);
+    }
 
 pub push_path-loop-part-preserved : goal.push_path-loop-part-preserved
 push_path-loop-part-preserved t c =
@@ -49,16 +56,18 @@ push_path-loop-part-preserved t c =
     let x = c.part-item.result in
     let more : take (i + 1) xs ≡ take i xs ++ x ∷ [] = take_more xs i x c.loop-part-test.true ∙ ap (λ v. take i xs ++ v ∷ []) (sym c.part-item.is) in
     let steps = part_steps c.args.dialect in
-    let was = string_bytes c.args.out.now in (
-      c.in_ok-push_part.ensures ∙ ap (λ b. string_bytes c.loop-part.out ++ step_at b (steps x)) c.loop-part.invariant.1
-          ∙ ap (λ s. s ++ step_at (said.is_nil (take i xs)) (steps x)) c.loop-part.invariant.0
+    let was = string_bytes c.args.out.now in
+    record {
+      text = c.in_ok-push_part.ensures.text ∙ ap (λ b. string_bytes c.loop-part.out ++ step_at b (steps x)) c.loop-part.invariant.first
+          ∙ ap (λ s. s ++ step_at (said.is_nil (take i xs)) (steps x)) c.loop-part.invariant.text
           ∙ append_assoc was (path_text (map steps (take i xs))) (step_at (said.is_nil (take i xs)) (steps x))
           ∙ ap (λ s. was ++ s) (sym (said.path_more steps (take i xs) x))
-          ∙ ap (λ (ys : List Part). was ++ path_text (map steps ys)) (sym more),
-      said.not_nil (take i xs) x ∙ ap said.is_nil (sym more),
-    )
+          ∙ ap (λ (ys : List Part). was ++ path_text (map steps ys)) (sym more);
+      first = said.not_nil (take i xs) x ∙ ap said.is_nil (sym more);
+      texts = subst (AllByRecursion IsReadPart) (sym more) (grown IsReadPart (take i xs) x c.loop-part.invariant.texts c.in_ok-push_part.ensures.texts);
+    }
 
-pub push_brackets-returns-in-Nth : goal.push_brackets-returns-in-Nth
-push_brackets-returns-in-Nth t c =
+pub push_brackets-returns-in-Nth-clause-text : goal.push_brackets-returns-in-Nth-clause-text
+push_brackets-returns-in-Nth-clause-text t c =
     same_piece _ _ _ _ _
     (sym (ap (λ u. (test_said c.args.dialect u c.args.around.now).brackets) c.in-Nth.is ∙ said.brackets_nth c.args.dialect _ _ _ c.args.around.now)) c.push_position.ensures

@@ -9,4 +9,4 @@ pub returns-else-len-gt-XPATH_LIMIT-clause-meaning :
 returns-else-len-gt-XPATH_LIMIT-clause-meaning c =
     let printed_is : string_bytes c.in-Ok.text ≡ printed c.args.dialect c.args.list.now = search rules in
     let within : length (string_bytes c.in-Ok.text) ≤ most_xpath = omega arith in
-    keeps_meaning c.args.dialect c.args.list.now (string_bytes c.in-Ok.text) c.requires c.read_list.ensures printed_is within
+    keeps_meaning c.args.dialect c.args.list.now (string_bytes c.in-Ok.text) c.requires c.in-Ok.ensures.texts printed_is within
