@@ -1,35 +1,16 @@
 -- What a test finds among the rows, and what it finds there.
-use Rattle.std.proofs.Common.{◌≡◌, refl, ℕ, suc, zero, ◌+◌, ◌<◌, ◌≤◌, Bool, true, false, ◌&&◌, ◌||◌, eqb, length, ap, ◌∙◌, arith, inl, inr, ◌⊎◌, ◌≢◌}
+use Rattle.std.proofs.Common.{◌≡◌, refl, ℕ, suc, zero, ◌+◌, ◌<◌, ◌≤◌, Bool, true, eqb, length, ap, ◌∙◌, arith, inl, inr, ◌≢◌}
 use Rattle.std.proofs.lemmas.Bool.Decides.{eqb_tells}
 use Rattle.std.specs.List.{list_any, range_with_len}
-use Rattle.std.proofs.lemmas.Bool.{eqb-true, eq-eqb}
+use Rattle.std.proofs.lemmas.Bool.{or_cases, or_left, or_right, eqb-true, eq-eqb}
 use Rattle.doc_model.specs.Document.{Document, rows}
 use Rattle.css_meaning.proofs.ListTests.{is_in}
-
-pub and_parts : (a b : Bool) → (a && b) ≡ true → (a ≡ true) × (b ≡ true)
-and_parts true true h = (refl, refl)
-and_parts true false h = cc
-and_parts false b h = cc
-
-pub parts_and : (a b : Bool) → a ≡ true → b ≡ true → (a && b) ≡ true
-parts_and a b h g = ap (λ x. x && b) h ∙ g
-
-pub or_parts : (a b : Bool) → (a || b) ≡ true → (a ≡ true) ⊎ (b ≡ true)
-or_parts true b h = inl refl
-or_parts false b h = inr h
-
-pub or_left : (a b : Bool) → a ≡ true → (a || b) ≡ true
-or_left a b h = ap (λ x. x || b) h
-
-pub or_right : (a b : Bool) → b ≡ true → (a || b) ≡ true
-or_right true b h = refl
-or_right false b h = h
 
 -- what a test finds among n numbers from a on
 pub found : (p : ℕ → Bool) (a n : ℕ) → list_any p (range_with_len a n) ≡ true → (y : ℕ) × (a ≤ y) × (y < a + n) × (p y ≡ true)
 found p a zero h = let x = h in cc
 found p a (suc n) h =
-    elim (or_parts (p a) (list_any p (range_with_len (a + 1) n)) h) [
+    elim (or_cases (p a) (list_any p (range_with_len (a + 1) n)) h) [
       | inl here ↦ (a, omega arith, omega arith, here)
       | inr later ↦ let w = found p (a + 1) n later in (w.0, omega arith, omega arith, w.3)
     ]

@@ -3,7 +3,7 @@ use Rattle.std.proofs.Common.{◌≡◌, ◌≢◌, sym, ◌∙◌, ap, subst, �
 use Rattle.std.specs.Option.{option_to_list}
 use Rattle.std.specs.List.{list_any, range_with_len}
 use Rattle.std.specs.Cmp.{both_ways}
-use Rattle.std.proofs.lemmas.Bool.{and_left, and_right, or_left, or_right, or_from, eq-eqb, ne_eqb, cases_lt, and_parts, false_from_ne_true, ltb-true}
+use Rattle.std.proofs.lemmas.Bool.{and_left, and_right, and_from, or_left, or_right, or_from, eq-eqb, ne_eqb, cases_lt, and_parts, false_from_ne_true, ltb-true}
 use Rattle.doc_model.specs.Document.{Document, row, below, IsDocument}
 use Rattle.doc_model.proofs.Below.{small, not_up}
 use Rattle.doc_model.proofs.WalkSteps.{IsOver, none_above, over_within}
@@ -11,7 +11,7 @@ use Rattle.css_selectors.specs.declared.selector.Dialect.{Dialect}
 use Rattle.css_meaning.specs.Attributes.{has_value, lang_test}
 use Rattle.css_meaning.specs.Language.{lang_name, gives_language, is_nearest_language, lang_holds}
 use Rattle.css_meaning.specs.inner.Nearest.{says}
-use Rattle.css_meaning.proofs.Finding as finding
+use Rattle.css_meaning.proofs.Finding.{found, finds}
 use Rattle.css_meaning.proofs.FoundValues.{named, value_found}
 use Rattle.css_meaning.proofs.ListTests.{or_false}
 
@@ -23,9 +23,9 @@ over doc y e (inr b) = or_right _ _ b
 only_one : (q : ℕ → Bool) (n y : ℕ) → y < n → ((k : ℕ) → k < n → k ≢ y → q k ≡ false) → list_any q (range_with_len 0 n) ≡ q y
 only_one q n y l others = both_ways _ _
     (λ h.
-    let w = finding.found q 0 n h in
+    let w = found q 0 n h in
     elim (eq_or_not w.0 y) [ inl e ↦ ap q (sym e) ∙ w.3 | inr ne ↦ absurd (clash (q w.0) w.3 (others w.0 (omega arith) ne)) ])
-    (λ h. finding.finds q 0 n y (omega arith) (omega arith) h)
+    (λ h. finds q 0 n y (omega arith) (omega arith) h)
   where
     clash : (b : Bool) → b ≡ true → b ≡ false → ⊥
     clash b h k = cc
@@ -34,7 +34,7 @@ only_one q n y l others = both_ways _ _
     eq_or_not a b = elim (cases_lt a b) [ inl lt ↦ inr (λ e. omega arith) | inr ge ↦ elim (cases_lt b a) [ inl gt ↦ inr (λ e. omega arith) | inr le ↦ inl (omega arith) ] ]
 
 no_one : (q : ℕ → Bool) (n : ℕ) → ((k : ℕ) → k < n → q k ≡ false) → list_any q (range_with_len 0 n) ≡ false
-no_one q n none = false_from_ne_true _ (λ h. let w = finding.found q 0 n h in let no : q w.0 ≡ false = none w.0 (omega arith) in let yes : q w.0 ≡ true = w.3 in cc)
+no_one q n none = false_from_ne_true _ (λ h. let w = found q 0 n h in let no : q w.0 ≡ false = none w.0 (omega arith) in let yes : q w.0 ≡ true = w.3 in cc)
 
 module _ (doc : Document) (dialect : Dialect) (e : ℕ) (d : IsDocument doc) where
   abbrev pub here : ℕ → Bool
@@ -65,10 +65,10 @@ module _ (doc : Document) (dialect : Dialect) (e : ℕ) (d : IsDocument doc) whe
   nearest_here : (y z : ℕ) → IsOver doc y e → named doc (lang_name dialect) y ≡ z ∷ []
       → ((k : ℕ) → y < k → k < length doc → here k ≡ false) → is_nearest_language doc dialect e y ≡ true
   nearest_here y z o i after =
-      finding.parts_and _ _ (this_here) (ap not (no_one (later y) (length doc) (λ w l. elim (cases_lt y w) [ inl j ↦ and_left _ _ (after w j l) | inr j ↦ and_right _ _ (false_from_ne_true _ (λ t. let u = ltb-true y w t in omega arith)) ])))
+      and_from _ _ (this_here) (ap not (no_one (later y) (length doc) (λ w l. elim (cases_lt y w) [ inl j ↦ and_left _ _ (after w j l) | inr j ↦ and_right _ _ (false_from_ne_true _ (λ t. let u = ltb-true y w t in omega arith)) ])))
     where
       this_here : here y ≡ true
-      this_here = finding.parts_and _ _ (over doc y e o) (value_found doc (lang_name dialect) y (λ value. true) ∙ ap (list_any (λ (r : ℕ). true)) i)
+      this_here = and_from _ _ (over doc y e o) (value_found doc (lang_name dialect) y (λ value. true) ∙ ap (list_any (λ (r : ℕ). true)) i)
 
   not_nearest : (y z k : ℕ) → y < length doc → IsOver doc y e → named doc (lang_name dialect) y ≡ z ∷ []
       → ((k : ℕ) → y < k → k < length doc → here k ≡ false) → k < length doc → k ≢ y → is_nearest_language doc dialect e k ≡ false
@@ -77,7 +77,7 @@ module _ (doc : Document) (dialect : Dialect) (e : ℕ) (d : IsDocument doc) whe
     | inr j ↦
         let less : k < y = omega (arith, ne) in
         let decides : here y ≡ true = (and_parts (here y) _ (nearest_here y z o i after)).0 in
-        and_right _ _ (ap not (finding.finds (later k) 0 (length doc) y (omega arith) (omega arith) (finding.parts_and _ _ decides (lt-ltb k y less))))
+        and_right _ _ (ap not (finds (later k) 0 (length doc) y (omega arith) (omega arith) (and_from _ _ decides (lt-ltb k y less))))
   ]
 
   pub nearest : (x : List ℕ) (y z : ℕ) → y < length doc → IsOver doc y e → named doc (lang_name dialect) y ≡ z ∷ []

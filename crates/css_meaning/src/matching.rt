@@ -180,7 +180,10 @@ fn leads_back<T: Tree>(
     }
 }
 
-/// Whether the selector matches the element. Selectors Level 3, sections 5 to 8. It takes no
+/// Whether the selector matches the row, read from the right: its last part holds there, and what
+/// stands before that part matches a row to which the row stands as the part's link says. The link
+/// of the first part is not asked, and no row stands to another by the link First: in a well made
+/// selector the first part has it, and no other. Selectors Level 3, sections 5 to 8. It takes no
 /// memory.
 pub fn matches<T: Tree>(tree: &T, dialect: Dialect, selector: &Selector, e: u32) -> bool
     requires { e < length (T.document tree.now) }
