@@ -1,6 +1,7 @@
 //! Canonical markup, and the tree that is read of it.
 ghost use Rattle.std.specs.Prelude.{◌≡◌, ◌≤◌, ℕ, List, length, IfOk, string_bytes, encode_utf8_all};
 ghost use Rattle.std.specs.Str.{chars, IsUtf8};
+ghost use Rattle.text_base.specs.Limits.{most_page};
 ghost use Rattle.html_reader.specs.Pages.{BuildsPage};
 ghost use Rattle.markup_out.specs.Markup as spec;
 
@@ -25,7 +26,7 @@ pub fn canonical<T: Tree>(alloc: Global, tree: &T) -> Result<String, NoMemory>
 /// document, and the markup has no fault.
 pub fn read_back<T: Tree>(alloc: Global, tree: &T) -> Result<VecTree, NoMemory>
     requires builds { (page : List ℕ) × (IsUtf8 page × BuildsPage page (T.document tree.now)) }
-    requires short { length (encode_utf8_all (spec.canonical (T.document tree.now))) ≤ 4194304 }
+    requires short { length (encode_utf8_all (spec.canonical (T.document tree.now))) ≤ most_page }
     ensures { IfOk result (λ done. ⟦<VecTree as Tree>⟧.document done ≡ T.document tree.now) }
 {
     let text = canonical(alloc, tree)?;
