@@ -7,6 +7,7 @@ use lib.Utf8.{scalar}
 use Rattle.std.specs.Str.{all_scalars}
 use Rattle.std.proofs.lemmas.Bool.Decides.{nat_tests}
 use Rattle.std.proofs.lemmas.Str.{IsUtf8-nil, IsUtf8-append, IsUtf8-encode, IsUtf8-drop, IsCharBoundary-after_ascii, inside_one, length-encode, encode_ascii}
+use Rattle.std.proofs.lemmas.Bool.{and_parts}
 use Rattle.text_base.specs.Text.{run_end, is_not_byte}
 use Rattle.text_base.specs.Words.{is_some}
 use Rattle.text_base.proofs.Runs.{run_end_stops}
@@ -14,10 +15,6 @@ use Rattle.char_refs.specs.Tables.{names, char_in, char_named, replaced, given_i
 use Rattle.char_refs.specs.References.{is_digit_in, number, own_char, or_own, char_of, digits_char, body_char, with_length, reference_of, first_piece, more_bytes, decoded_past, decoded}
 use Rattle.char_refs.proofs.DecodingLemmas.{skip}
 use Rattle.char_refs.proofs.EscapedLemmas.{kept}
-
-both : (a b : Bool) → (a && b) ≡ true → (a ≡ true) × (b ≡ true)
-both true b h = (refl, h)
-both false b h = cc
 
 -- each character that a reference may stand for is one
 own_scalar : (n : ℕ) → scalar (own_char n) ≡ true
@@ -30,7 +27,7 @@ module _ (n : ℕ) where
   given_scalar : (entries : List (ℕ × ℕ)) → list_all (λ e. scalar e.1) entries ≡ true → (c : ℕ) → given_in entries n ≡ Some c → scalar c ≡ true
   given_scalar [] all c h = cc
   given_scalar (e ∷ entries) all c h =
-      let parts = both (scalar e.1) (list_all (λ e. scalar e.1) entries) all in
+      let parts = and_parts (scalar e.1) (list_all (λ e. scalar e.1) entries) all in
       by_first (e.0 == n) parts.0 h (given_scalar entries parts.1 c)
     where
       by_first : (b : Bool) → scalar e.1 ≡ true → cond b (Some e.1) (given_in entries n) ≡ Some c → (given_in entries n ≡ Some c → scalar c ≡ true) → scalar c ≡ true
@@ -51,7 +48,7 @@ module _ (n : ℕ) where
 named_scalar : (name : List ℕ) (entries : List (List ℕ × ℕ)) → list_all (λ e. scalar e.1) entries ≡ true → (c : ℕ) → char_in entries name ≡ Some c → scalar c ≡ true
 named_scalar name [] all c h = cc
 named_scalar name (e ∷ entries) all c h =
-    let parts = both (scalar e.1) (list_all (λ e. scalar e.1) entries) all in
+    let parts = and_parts (scalar e.1) (list_all (λ e. scalar e.1) entries) all in
     by_first _ parts.0 h (named_scalar name entries parts.1 c)
   where
     by_first : (b : Bool) → scalar e.1 ≡ true → cond b (Some e.1) (char_in entries name) ≡ Some c → (char_in entries name ≡ Some c → scalar c ≡ true) → scalar c ≡ true
@@ -91,7 +88,7 @@ reference_parts s r h =
     by_test true is (Some c) body k =
         let e = run_end (is_not_byte 59) s 1 in
         let same : (let x : ℕ × ℕ = (c, e + 1) in x) ≡ r = cc in
-        subst (IsReference s) same (body_scalar (slice_range s 1 e) c body, below e (length s) (both (get_or s 0 0 == 38) (ltb e (length s)) is).1, refl)
+        subst (IsReference s) same (body_scalar (slice_range s 1 e) c body, below e (length s) (and_parts (get_or s 0 0 == 38) (ltb e (length s)) is).1, refl)
       where
         below : (a b : ℕ) → ltb a b ≡ true → a < b
         below a b h = grind (arith, nat_tests)
@@ -119,7 +116,7 @@ decoded_by : (n : ℕ) (cs s : List ℕ) → length s ≤ n → all_scalars cs �
 decoded_by n [] s l ok e = subst (λ x. IsUtf8 (decoded x)) e IsUtf8-nil
 decoded_by zero (c ∷ cs) s l ok e = absurd (let some = some_bytes c in omega (arith, ap length e, length-append (encode_utf8 c) (encode_utf8_all cs)))
 decoded_by (suc n) (c ∷ cs) s l ok e =
-    let parts = both (scalar c) (all_scalars cs) ok in
+    let parts = and_parts (scalar c) (all_scalars cs) ok in
     let t = encode_utf8_all cs in
     let short : length t ≤ n = (let some = some_bytes c in omega (arith, ap length e, length-append (encode_utf8 c) t)) in
     let rest = decoded_by n cs t short parts.1 refl in

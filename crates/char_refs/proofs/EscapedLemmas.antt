@@ -8,6 +8,7 @@ use Rattle.std.proofs.lemmas.Str.{inside_one, encodes-append, encodes-IsAscii}
 use Rattle.std.specs.Str.{IsAscii}
 use Rattle.std.proofs.Math.ListN.{get_or-append}
 use Rattle.std.proofs.Math.Seq.{take-append_seam, get_or-append_seam}
+use Rattle.std.proofs.lemmas.Bool.{both_ways}
 use Rattle.text_base.specs.Text.{run_end, is_not_byte}
 use Rattle.char_refs.specs.References.{reference_of, with_length, body_char, first_piece, more_bytes, decoded_past, decoded}
 use Rattle.char_refs.specs.Escapes.{escape}
@@ -134,10 +135,7 @@ module _ (c : ℕ) (rest : List ℕ) where
   choose false x y h k = k refl
 
   as_is : (eqb c 38 ≡ false) → Back (c ∷ [])
-  as_is h = ap (λ s. decoded (s ++ rest)) (append-nil (encode_utf8 c)) ∙ plain c rest (λ e. both (eq-eqb c 38 e) h)
-    where
-      both : {b : Bool} → b ≡ true → b ≡ false → ⊥
-      both h k = cc
+  as_is h = ap (λ s. decoded (s ++ rest)) (append-nil (encode_utf8 c)) ∙ plain c rest (λ e. both_ways _ h (eq-eqb c 38 e))
 
   named : (body : List ℕ) (d : ℕ) → AllPass (is_not_byte 59) body → IsAscii (38 ∷ (body ++ (59 ∷ []))) → body_char body ≡ Some d → c ≡ d → Back (38 ∷ (body ++ (59 ∷ [])))
   named body d passes ascii is e =

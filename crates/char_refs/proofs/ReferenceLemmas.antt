@@ -2,7 +2,7 @@
 use Rattle.std.proofs.Common.{◌≡◌, ℕ, ◌+◌, ◌-◌, ◌<◌, ◌≤◌, Bool, true, false, cond, ◌&&◌, ◌||◌, List, [], ◌∷◌, length, get_or, take, drop, sym, refl, ◌∙◌, ap, subst, arith, inl, inr, length-drop, length-take, get_or-drop, get_or-take, drop-drop, ltb}
 use Rattle.std.specs.Prelude.{◌==◌, Some, None, Option, slice_range}
 use Rattle.std.specs.List.{list_all}
-use Rattle.std.proofs.lemmas.Bool.{cases_lt}
+use Rattle.std.proofs.lemmas.Bool.{cases_lt, both_ways, and_parts, false_from_ne_true}
 use Rattle.std.proofs.lemmas.Bool.Decides.{nat_tests}
 use Rattle.std.proofs.lemmas.List.Folds.{list_all_at}
 use Rattle.std.proofs.lemmas.Slice.Eq.{bytes_eq-Decides}
@@ -13,20 +13,9 @@ use Rattle.char_refs.specs.Kinds.{is_body_byte}
 use Rattle.char_refs.specs.Tables.{names, char_in, char_named}
 use Rattle.char_refs.specs.References.{is_digit_in, digits_char, body_char, with_length, reference_of}
 
-both : (a b : Bool) → (a && b) ≡ true → (a ≡ true) × (b ≡ true)
-both true b h = (refl, h)
-both false b h = cc
-
-not_true_false : (b : Bool) → (b ≡ true → ⊥) → b ≡ false
-not_true_false true h = absurd (h refl)
-not_true_false false h = refl
-
 none_if : {A : Type 0} (b : Bool) (x : Option A) → b ≡ false → cond b x None ≡ None
 none_if true x h = cc
 none_if false x h = refl
-
-true_false : (b : Bool) → b ≡ true → b ≡ false → ⊥
-true_false b h k = cc
 
 and_false : (a b : Bool) → b ≡ false → (a && b) ≡ false
 and_false true b h = h
@@ -41,15 +30,15 @@ module _ (body : List ℕ) (k : ℕ) (l : k < length body) (strange : is_body_by
       let e : get_or (drop n body) (k - n) 0 ≡ get_or body k 0 = get_or-drop n body (k - n) 0 ∙ ap (λ i. get_or body i 0) (omega arith) in
       none_if _ _ (and_false (is_some (drop n body)) _
       (list_all_at (is_digit_in base) (drop n body) (k - n) 0 (omega (arith, length-drop n body))
-      (not_true_false _ (λ yes. true_false (is_body_byte (get_or body k 0)) (ap is_body_byte (sym e) ∙ digit_of_body base (get_or (drop n body) (k - n) 0) small yes) strange))))
+      (false_from_ne_true _ (λ yes. both_ways (is_body_byte (get_or body k 0)) strange (ap is_body_byte (sym e) ∙ digit_of_body base (get_or (drop n body) (k - n) 0) small yes)))))
 
   no_name : (entries : List (List ℕ × ℕ)) → list_all (λ e. list_all is_body_byte e.0) entries ≡ true → char_in entries body ≡ None
   no_name [] h = refl
   no_name (e ∷ entries) h =
-      let parts = both (list_all is_body_byte e.0) (list_all (λ e. list_all is_body_byte e.0) entries) h in
-      ap (λ b. cond b (Some e.1) (char_in entries body)) (not_true_false _ (λ yes.
+      let parts = and_parts (list_all is_body_byte e.0) (list_all (λ e. list_all is_body_byte e.0) entries) h in
+      ap (λ b. cond b (Some e.1) (char_in entries body)) (false_from_ne_true _ (λ yes.
       let same : e.0 ≡ body = (bytes_eq-Decides _ _).0 yes in
-      true_false (list_all is_body_byte body) (subst (λ n. list_all is_body_byte n ≡ true) same parts.0) (list_all_at is_body_byte body k 0 l strange)))
+      both_ways (list_all is_body_byte body) (list_all_at is_body_byte body k 0 l strange) (subst (λ n. list_all is_body_byte n ≡ true) same parts.0)))
       ∙ no_name entries parts.1
 
   no_listed : char_named body ≡ None
@@ -60,7 +49,7 @@ module _ (body : List ℕ) (k : ℕ) (l : k < length body) (strange : is_body_by
   is_body b h = grind (arith, nat_tests)
 
   other_place : (i : ℕ) → is_body_byte (get_or body i 0) ≡ true → k ≡ i → ⊥
-  other_place i h e = true_false (is_body_byte (get_or body k 0)) (ap (λ j. is_body_byte (get_or body j 0)) e ∙ h) strange
+  other_place i h e = both_ways (is_body_byte (get_or body k 0)) strange (ap (λ j. is_body_byte (get_or body j 0)) e ∙ h)
 
   cases_body : (a b : Bool) → (get_or body 0 0 == 35) ≡ a → ((get_or body 1 0 == 120) || (get_or body 1 0 == 88)) ≡ b → cond a (cond b (digits_char 16 (drop 2 body)) (digits_char 10 (drop 1 body))) (char_named body) ≡ None
   cases_body false b sign x = no_listed
@@ -84,7 +73,7 @@ module _ (text : List ℕ) (i : ℕ) where
   first_byte = byte_from 0 ∙ ap (λ n. get_or text n 0) (omega arith)
 
   pub no_sign : (get_or text i 0 ≡ 38 → ⊥) → None ≡ reference_of (drop i text)
-  no_sign other = sym (none_if _ _ (and_front _ _ (ap (λ b. b == 38) first_byte ∙ not_true_false (get_or text i 0 == 38) (λ yes. other (grind (arith, nat_tests))))))
+  no_sign other = sym (none_if _ _ (and_front _ _ (ap (λ b. b == 38) first_byte ∙ false_from_ne_true (get_or text i 0 == 38) (λ yes. other (grind (arith, nat_tests))))))
     where
       and_front : (a b : Bool) → a ≡ false → (a && b) ≡ false
       and_front true b h = cc
@@ -120,7 +109,7 @@ module _ (s : List ℕ) (e : ℕ) (low : 1 ≤ e) (within : e ≤ length s) (pas
   ends_elsewhere stops other =
       let n = run_end (is_not_byte 59) s 1 in
       none_of (body_char (slice_range s 1 n)) ((get_or s 0 0 == 38) && ltb n (length s)) (n + 1) (λ yes.
-      let inside : n < length s = (let t : ltb n (length s) ≡ true = (both (get_or s 0 0 == 38) (ltb n (length s)) yes).1 in grind arith) in
+      let inside : n < length s = (let t : ltb n (length s) ≡ true = (and_parts (get_or s 0 0 == 38) (ltb n (length s)) yes).1 in grind arith) in
       body_none n (elim (cases_lt e n) [ inl l ↦ l | inr back ↦ absurd (back_none inside back) ]) inside (stops (far inside)))
     where
       is_end : run_end (is_not_byte 59) s 1 < length s → get_or s (run_end (is_not_byte 59) s 1) 0 ≡ 59

@@ -2,6 +2,7 @@
 use Rattle.std.proofs.Common.{◌≡◌, ℕ, zero, suc, ◌+◌, ◌-◌, ◌<◌, ◌≤◌, inl, inr, true, cond, List, [], ◌∷◌, length, get_or, drop, sym, refl, ◌∙◌, ap, subst, arith, ltb, eqb-true, IsUtf8, length-take, length-drop, get_or-take, get_or-drop}
 use Rattle.std.specs.Prelude.{◌==◌, slice_range}
 use Rattle.std.specs.List.{AllPass}
+use Rattle.std.proofs.lemmas.Bool.{ltb-true}
 use Rattle.text_base.specs.Text.{run_end, is_not_byte, is_space5, IsPlace}
 use Rattle.text_base.specs.Kinds.{space5_narrow}
 use Rattle.text_base.specs.declared.reasons.PageReason.TheVariants.{BadTag}
@@ -13,7 +14,7 @@ use Rattle.html_lexer.specs.declared.tags.Attribute.{Attribute}
 use Rattle.html_lexer.specs.declared.tags.AttrStep.TheVariants.{Reads, Refuses}
 use Rattle.html_lexer.specs.Tags.{quoted, valued, named}
 use Rattle.html_lexer.specs.Attributes.{Writes, pair_at}
-use Rattle.html_lexer.proofs.SliceLemmas.{cond_is, same_attribute, refuses_reads, found, ltb_lt}
+use Rattle.html_lexer.proofs.SliceLemmas.{cond_is, same_attribute, refuses_reads, found}
 use Rattle.html_lexer.proofs.TagLemmas.{is_part, cut_out, quoted_leads}
 use Rattle.html_lexer.proofs.CutLemmas.{slice_utf8}
 
@@ -34,7 +35,7 @@ module _ (text : List ℕ) (utf8 : IsUtf8 text) where
       let q = run_end (is_not_byte (get_or text v 0)) text (v + 1) in
       let r : Attribute = record { name = name; name_to = name_to; value = v + 1; value_to = q; to = q + 1 } in
       elim (cond_is (ltb q (length text)) (Reads r) (Refuses BadTag) (Reads a) h) [
-        | inl p ↦ (let leads = quoted_leads text name name_to v q utf8 l ascii part refl (ltb_lt q (length text) p.0) in
+        | inl p ↦ (let leads = quoted_leads text name name_to v q utf8 l ascii part refl (ltb-true q (length text) p.0) in
             subst (Cut name name_to) (same_attribute r a p.1) (refl, refl, leads.3, leads.2))
         | inr p ↦ absurd (refuses_reads BadTag a p.1)
       ]

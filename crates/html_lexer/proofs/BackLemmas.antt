@@ -8,7 +8,7 @@ use Rattle.std.proofs.lemmas.List.{take-append-drop, take-append-le, drop-append
 use Rattle.std.proofs.lemmas.Slice.Eq.{bytes_eq-Decides}
 use Rattle.std.proofs.Math.Seq.{take-append_seam, get_or-append_seam}
 use Rattle.std.specs.Char.{to_ascii_lowercase}
-use Rattle.std.proofs.lemmas.Bool.{cases_lt}
+use Rattle.std.proofs.lemmas.Bool.{cases_lt, false_from_ne_true, and_parts}
 use Rattle.text_base.specs.Text.{run_end, find_where, first_place, begins_with, is_letter, is_space5}
 use Rattle.text_base.specs.declared.reasons.PageReason.TheVariants.{BadTag, BadComment}
 use Rattle.text_base.proofs.Places.{find_none, find_here}
@@ -29,10 +29,6 @@ use Rattle.html_lexer.proofs.WrittenLemmas.{run_is, run_here, below}
 
 one_more : (n : ℕ) → 1 + n ≡ suc n
 one_more n = omega arith
-
-is_false : (b : Bool) → (b ≡ true → ⊥) → b ≡ false
-is_false true h = absurd (h refl)
-is_false false h = refl
 
 pick_no : {A : Type 0} (b : Bool) (x y z : A) → b ≡ false → y ≡ z → cond b x y ≡ z
 pick_no true x y z h e = cc
@@ -100,7 +96,7 @@ module _ (text name y : List ℕ) (i : ℕ) (front : drop i text ≡ codes "</" 
 
 -- a comment
 begins_no : (part s : List ℕ) → (take (length part) s ≡ part → ⊥) → begins_with part s ≡ false
-begins_no part s h = is_false (begins_with part s) (λ e. h ((bytes_eq-Decides (take (length part) s) part).0 e))
+begins_no part s h = false_from_ne_true (begins_with part s) (λ e. h ((bytes_eq-Decides (take (length part) s) part).0 e))
 
 begins_yes : (part y : List ℕ) → begins_with part (part ++ y) ≡ true
 begins_yes part y = (bytes_eq-Decides (take (length part) (part ++ y)) part).1 (take-append_seam part y)
@@ -159,7 +155,7 @@ module _ (text s y : List ℕ) (i : ℕ) (front : drop i text ≡ codes "<!--" +
 
   first_no : (r : List ℕ) → r ≡ s → drop p text ≡ r ++ (codes "-->" ++ y) → (get_or text p 0 == 62) ≡ false
   first_no [] is h = ap (λ c. c == 62) (rest_byte text p 45 (codes "->" ++ y) h)
-  first_no (c ∷ r) is h = ap (λ b. b == 62) (rest_byte text p c (r ++ (codes "-->" ++ y)) h) ∙ is_false (c == 62) (λ k. no_bracket (r, sym is ∙ ap (λ b. b ∷ r) (eqb_eq c 62 k)))
+  first_no (c ∷ r) is h = ap (λ b. b == 62) (rest_byte text p c (r ++ (codes "-->" ++ y)) h) ∙ false_from_ne_true (c == 62) (λ k. no_bracket (r, sym is ∙ ap (λ b. b ∷ r) (eqb_eq c 62 k)))
     where
       eqb_eq : (a b : ℕ) → (a == b) ≡ true → a ≡ b
       eqb_eq a b h = grind (arith, nat_tests)
@@ -178,7 +174,7 @@ module _ (text s y : List ℕ) (i : ℕ) (front : drop i text ≡ codes "<!--" +
       and_false true = refl
       and_false false = refl
   arrow_no (c ∷ (d ∷ r)) is h =
-      is_false ((get_or text p 0 == 45) && (get_or text (p + 1) 0 == 62))
+      false_from_ne_true ((get_or text p 0 == 45) && (get_or text (p + 1) 0 == 62))
       (λ k. no_arrow (r, sym is ∙ (λ j. two c d (rest_byte text p c (d ∷ (r ++ (codes "-->" ++ y))) h) (rest_byte text (p + 1) d (r ++ (codes "-->" ++ y)) (rest_past text p (p + 1) (c ∷ []) (d ∷ (r ++ (codes "-->" ++ y))) refl h)) k j ++ r)))
     where
       eq_left : (a b : ℕ) → ((a == 45) && (b == 62)) ≡ true → a ≡ 45
@@ -231,7 +227,7 @@ opens_first [] y h (inl e) = ap (first_place opens) e
 opens_first [] [] h (inr o) = refl
 opens_first [] (c ∷ y) h (inr o) = ap (λ b. cond b 0 (1 + first_place opens y)) o
 opens_first (c ∷ s) y h next =
-    ap (λ b. cond (b && is_opener (get_or (c ∷ (s ++ y)) 1 0)) 0 (1 + first_place opens (s ++ y))) (is_false (c == 60) (λ e. h 0 (omega arith) (eqb_eq c 60 e)))
+    ap (λ b. cond (b && is_opener (get_or (c ∷ (s ++ y)) 1 0)) 0 (1 + first_place opens (s ++ y))) (false_from_ne_true (c == 60) (λ e. h 0 (omega arith) (eqb_eq c 60 e)))
     ∙ ap (λ n. 1 + n) (opens_first s y (λ k l. h (suc k) (omega arith)) next)
     ∙ one_more (length s)
   where
@@ -241,7 +237,7 @@ opens_first (c ∷ s) y h next =
 pub text_back : (text : List ℕ) (c : ℕ) (s y : List ℕ) (i : ℕ) → drop i text ≡ (c ∷ s) ++ y → ((k : ℕ) → k < length (c ∷ s) → get_or (c ∷ s) k 0 ≡ 60 → ⊥) → IsNext y → (previous : List ℕ) → raw_end text previous i ≡ i → Begins text previous i (text_tok i (i + length (c ∷ s)) (c ∷ s) true)
 text_back text c s y i front no_lt next previous raw =
     let first : get_or text i 0 ≡ c = rest_byte text i c (s ++ y) front in
-    let not_lt : (get_or text i 0 == 60) ≡ false = ap (λ b. b == 60) first ∙ is_false (c == 60) (λ e. no_lt 0 (omega arith) (eqb_eq c 60 e)) in
+    let not_lt : (get_or text i 0 == 60) ≡ false = ap (λ b. b == 60) first ∙ false_from_ne_true (c == 60) (λ e. no_lt 0 (omega arith) (eqb_eq c 60 e)) in
     let to : find_where opens text i ≡ i + length (c ∷ s) = ap (λ n. i + n) (ap (first_place opens) front ∙ opens_first (c ∷ s) y no_lt next) in
     let is : other_at text i ≡ Gives (Text (i + length (c ∷ s)) true) =
     pick_no ((get_or text i 0 == 60) && (get_or text (i + 1) 0 == 47)) _ _ _ (neither _ (get_or text (i + 1) 0 == 47) not_lt)
@@ -281,10 +277,6 @@ raw_over text i previous raw l h = ap (λ b. cond b (find_where (closes previous
 abbrev IsEndTag : List ℕ → List ℕ → Type 0
 IsEndTag name s = (get_or s 0 0 ≡ 60) × (get_or s 1 0 ≡ 47) × (2 + length name < length s) × (str_eq_ignore_ascii_case (slice_range s 2 (2 + length name)) name ≡ true) × ((is_gap (get_or s (2 + length name) 0) || (get_or s (2 + length name) 0 == 62)) ≡ true)
 
-both_parts : (a b : Bool) → (a && b) ≡ true → (a ≡ true) × (b ≡ true)
-both_parts true b h = (refl, h)
-both_parts false b h = cc
-
 eqb_is : (a b : ℕ) → (a == b) ≡ true → a ≡ b
 eqb_is a b h = grind (arith, nat_tests)
 
@@ -298,10 +290,10 @@ is_end_tag : (name s : List ℕ) → closes name s ≡ true → IsEndTag name s
 is_end_tag name s h =
     let gap = is_gap (get_or s (2 + length name) 0) || (get_or s (2 + length name) 0 == 62) in
     let letters = has_letters s 2 name in
-    let c = both_parts (((get_or s 0 0 == 60) && (get_or s 1 0 == 47)) && letters) gap h in
-    let b = both_parts ((get_or s 0 0 == 60) && (get_or s 1 0 == 47)) letters c.0 in
-    let a = both_parts (get_or s 0 0 == 60) (get_or s 1 0 == 47) b.0 in
-    let d = both_parts (leb (2 + length name) (length s)) (str_eq_ignore_ascii_case (slice_range s 2 (2 + length name)) name) b.1 in
+    let c = and_parts (((get_or s 0 0 == 60) && (get_or s 1 0 == 47)) && letters) gap h in
+    let b = and_parts ((get_or s 0 0 == 60) && (get_or s 1 0 == 47)) letters c.0 in
+    let a = and_parts (get_or s 0 0 == 60) (get_or s 1 0 == 47) b.0 in
+    let d = and_parts (leb (2 + length name) (length s)) (str_eq_ignore_ascii_case (slice_range s 2 (2 + length name)) name) b.1 in
     (eqb_is (get_or s 0 0) 60 a.0, eqb_is (get_or s 1 0) 47 a.1, in_text s (2 + length name) (past_some (get_or s (2 + length name) 0) c.1), d.1, c.1)
 
 end_tag_is : (name s : List ℕ) → IsEndTag name s → closes name s ≡ true
@@ -365,7 +357,7 @@ NoEnd name (c ∷ s) = (closes name (c ∷ s) ≡ false) × NoEnd name s
 pub raw_first : (name s y : List ℕ) → AllPass is_letter name → NoEnd name s → closes name (codes "</" ++ (name ++ 62 ∷ y)) ≡ true → first_place (closes name) (s ++ (codes "</" ++ (name ++ 62 ∷ y))) ≡ length s
 raw_first name [] y letters h end = ap (λ b. cond b 0 (1 + first_place (closes name) (47 ∷ (name ++ 62 ∷ y)))) end
 raw_first name (c ∷ s) y letters h end =
-    ap (λ b. cond b 0 (1 + first_place (closes name) (s ++ (codes "</" ++ (name ++ 62 ∷ y))))) (is_false (closes name (c ∷ (s ++ (codes "</" ++ (name ++ 62 ∷ y))))) (λ e. both_ways (closes_less name c s (47 ∷ (name ++ 62 ∷ y)) letters e) h.0))
+    ap (λ b. cond b 0 (1 + first_place (closes name) (s ++ (codes "</" ++ (name ++ 62 ∷ y))))) (false_from_ne_true (closes name (c ∷ (s ++ (codes "</" ++ (name ++ 62 ∷ y))))) (λ e. both_ways (closes_less name c s (47 ∷ (name ++ 62 ∷ y)) letters e) h.0))
     ∙ ap (λ n. 1 + n) (raw_first name s y letters h.1 end)
     ∙ one_more (length s)
   where
@@ -383,7 +375,7 @@ closes_itself name y =
 
 -- and what the page says of raw text
 pub no_end : (name text : List ℕ) (n : ℕ) → n ≤ length text → ((k : ℕ) → k < n → closes name (drop k text) ≡ false) → NoEnd name (take n text)
-no_end name text n within h = by_list name (take n text) (λ k l. is_false _ (λ e. both_ways (subst (λ z. closes name z ≡ true) (sym (front text n k l)) (closes_more name (drop k (take n text)) (drop n text) e)) (h k (omega (arith, l, length-take n text)))))
+no_end name text n within h = by_list name (take n text) (λ k l. false_from_ne_true _ (λ e. both_ways (subst (λ z. closes name z ≡ true) (sym (front text n k l)) (closes_more name (drop k (take n text)) (drop n text) e)) (h k (omega (arith, l, length-take n text)))))
   where
     both_ways : {b : Bool} → b ≡ true → b ≡ false → ⊥
     both_ways h k = cc

@@ -5,6 +5,7 @@ use Rattle.std.proofs.lemmas.Bool.Decides.{nat_tests}
 use Rattle.std.proofs.lemmas.List.{take-append-drop, length-append, append_assoc}
 use Rattle.std.proofs.lemmas.Slice.Eq.{bytes_eq-Decides}
 use Rattle.std.proofs.Math.Seq.{drop-append_seam, take-append_seam}
+use Rattle.std.proofs.lemmas.Bool.{ltb-true, ltb-false}
 use Rattle.text_base.specs.Text.{is_not_byte, find_where, begins_with}
 use Rattle.text_base.proofs.Boundaries.{in_text}
 use Rattle.text_base.proofs.Places.{find_in}
@@ -15,7 +16,6 @@ use Rattle.html_lexer.specs.Steps.{bracket}
 use Rattle.html_lexer.specs.Tokens.{tok_at, comment_tok}
 use Rattle.html_lexer.specs.TokenLaws.{Holds, BeginsWith, IsMarked, IsQuery, CommentText}
 use Rattle.html_lexer.proofs.RestLemmas.{rest_byte, byte_rest, rest_past, rest_slice, slice_rest, find_first}
-use Rattle.html_lexer.proofs.SliceLemmas.{ltb_lt}
 use Rattle.html_lexer.proofs.TextLemmas.{IsBody, At, in_raw, a_tag, outside, Other, ends, marks, types, asks, reads, comment_gives, step_gives}
 
 -- a list that the rest of the text begins with, and what stands in it
@@ -35,9 +35,6 @@ begins_part : (part s : List ℕ) → begins_with part s ≡ true → s ≡ part
 begins_part part s h =
     let e : take (length part) s ≡ part = (bytes_eq-Decides _ _).0 h in
     sym (take-append-drop (length part) s) ∙ ap (λ x. x ++ drop (length part) s) e
-
-ltb_le : (a b : ℕ) → ltb a b ≡ false → b ≤ a
-ltb_le a b h = grind (arith, nat_tests)
 
 is_not : (a b : ℕ) → a ≡ b → (a == b) ≡ false → ⊥
 is_not a b e h = grind (arith, nat_tests)
@@ -106,7 +103,7 @@ module _ (text : List ℕ) (i p e : ℕ) (t : TokenAt) (at : p ≡ i + 4) (body 
 
   no_bang : Holds s (codes "--!>") → ⊥
   no_bang h =
-      let far = ltb_le (find_where (begins_with (codes "--!>")) s 0) (length s) body.no_bang in
+      let far = ltb-false (find_where (begins_with (codes "--!>")) s 0) (length s) body.no_bang in
       let l : length h.0 < length s = omega (arith, ap length h.2, length-append h.0 (codes "--!>" ++ h.1), length-append (codes "--!>") h.1) in
       find_first (begins_with (codes "--!>")) s 0 (length h.0) (omega arith) (omega arith) (omega arith)
       (begins_yes (codes "--!>") _ h.1 (ap (drop (length h.0)) h.2 ∙ drop-append_seam h.0 (codes "--!>" ++ h.1)))
@@ -176,7 +173,7 @@ module _ (text : List ℕ) where
       let body = comment_gives text (i + 4) t m.2 in
       subst (IsCommentAt text i) (sym body.is) (inl (marked text i (i + 4) _ t refl body a b m.0 m.1))
   comment_other i t (types m e) = subst (IsCommentAt text i) (sym e) tt
-  comment_other i t (asks a b l e) = subst (IsCommentAt text i) (sym e) (inr (queried text i (bracket text (i + 1)) refl a b (ltb_lt _ _ l)))
+  comment_other i t (asks a b l e) = subst (IsCommentAt text i) (sym e) (inr (queried text i (bracket text (i + 1)) refl a b (ltb-true _ _ l)))
   comment_other i t (reads a b c e) = subst (IsCommentAt text i) (sym e) tt
 
   comment_at_place : (name : List ℕ) (i : ℕ) (t : TokenAt) → At text name i t → IsCommentAt text i t

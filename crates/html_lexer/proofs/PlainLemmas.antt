@@ -2,16 +2,13 @@
 use Rattle.std.proofs.Common.{◌≡◌, ℕ, ◌+◌, ◌<◌, ◌≤◌, Bool, true, false, not, ◌&&◌, List, length, get_or, drop, sym, refl, ◌∙◌, ap, subst, arith, get_or-drop, add-zero, IsUtf8}
 use Rattle.std.specs.Prelude.{◌==◌}
 use Rattle.std.proofs.lemmas.Bool.Decides.{nat_tests}
+use Rattle.std.proofs.lemmas.Bool.{not-true}
 use Rattle.text_base.specs.Text.{find_where, run_end, is_not_byte, is_letter, IsPlace}
 use Rattle.text_base.proofs.Boundaries.{after_ascii}
 use Rattle.text_base.proofs.Runs.{run_end_from, run_end_le, run_end_passes, run_end_stops}
 use Rattle.text_base.proofs.Places.{find_past, find_here, find_later, find_end, find_moves}
 use Rattle.html_lexer.specs.Kinds.{is_name_byte}
 use Rattle.html_lexer.specs.Steps.{is_opener, opens, starts_at}
-
-is_false : (b : Bool) → not b ≡ true → b ≡ false
-is_false true h = sym h
-is_false false h = refl
 
 is_true : (b : Bool) → not b ≡ false → b ≡ true
 is_true true h = refl
@@ -29,7 +26,7 @@ neither false b h = refl
 module _ (p : List ℕ → Bool) (text : List ℕ) (needs : (k : ℕ) → (get_or text k 0 == 60) ≡ false → p (drop k text) ≡ false) (i j : ℕ) (within : i ≤ length text) (found : j ≡ run_end (is_not_byte 60) text i) where
   skipped : find_where p text i ≡ find_where p text j
   skipped = find_past p text i j (omega (arith, run_end_from (is_not_byte 60) text i)) (omega (arith, run_end_le (is_not_byte 60) text i within))
-      (λ k low high. needs k (is_false _ (run_end_passes (is_not_byte 60) text i k low (omega arith))))
+      (λ k low high. needs k (not-true _ (run_end_passes (is_not_byte 60) text i k low (omega arith))))
 
   pub to_end : length text ≤ j → find_where p text i ≡ j
   to_end l = skipped ∙ find_end p text j l

@@ -1,7 +1,7 @@
 -- What stands in a start tag reads alone as it does in its page.
 use Rattle.std.proofs.Common.{◌≡◌, ℕ, ◌+◌, ◌-◌, ◌<◌, ◌≤◌, ◌⊎◌, inl, inr, Bool, true, false, cond, ◌&&◌, List, [], ◌∷◌, length, get_or, take, drop, map, sym, refl, ◌∙◌, ap, subst, arith, ltb, leb, eqb-true, ne_eqb, length-take, length-drop, get_or-take, get_or-drop, drop-drop}
 use Rattle.std.specs.Prelude.{◌==◌, slice_range}
-use Rattle.std.proofs.lemmas.Bool.{cases_lt}
+use Rattle.std.proofs.lemmas.Bool.{cases_lt, both_ways, and_parts, ltb-true, leb-false}
 use Rattle.std.proofs.lemmas.Bool.Decides.{nat_tests}
 use Rattle.std.proofs.lemmas.List.{get_or_past, drop-take, take-take}
 use Rattle.text_base.specs.Text.{run_end, is_not_byte, is_space5}
@@ -43,19 +43,6 @@ reads_closes i j s a e = cc
 
 pub refuses_closes : (r : PageReason) (i j : ℕ) (s : Bool) → Refuses r ≡ Closes i j s → ⊥
 refuses_closes r i j s e = cc
-
-pub both_true : (a b : Bool) → (a && b) ≡ true → (a ≡ true) × (b ≡ true)
-both_true true b h = (refl, h)
-both_true false b h = cc
-
-true_false : (b : Bool) → b ≡ true → b ≡ false → ⊥
-true_false b h k = cc
-
-pub ltb_lt : (a b : ℕ) → ltb a b ≡ true → a < b
-ltb_lt a b h = grind (arith, nat_tests)
-
-pub leb_lt : (a b : ℕ) → leb a b ≡ false → b < a
-leb_lt a b h = grind (arith, nat_tests)
 
 pub lt_ltb : (a b : ℕ) → a < b → ltb a b ≡ true
 lt_ltb a b l = grind (arith, nat_tests)
@@ -122,7 +109,7 @@ module _ (text : List ℕ) where
         | inr p ↦ elim (cond_is (leb (length text) k) (Refuses BadTag) (reading k) (Reads a) p.1) [
           | inl q ↦ absurd (refuses_reads BadTag a q.1)
           | inr q ↦ elim (cond_is (is_attr_byte (get_or text k 0)) (named text k) (Refuses BadAttribute) (Reads a) q.1) [
-            | inl r ↦ (p.0, leb_lt (length text) k q.0, r.0, r.1)
+            | inl r ↦ (p.0, leb-false (length text) k q.0, r.0, r.1)
             | inr r ↦ absurd (refuses_reads BadAttribute a r.1)
           ]
         ]
@@ -165,8 +152,8 @@ module _ (text : List ℕ) where
       let from = run_end_from is_gap text i in
       elim (cond_is (get_or text k 0 == 62) (closing i k) (cond (leb (length text) k) (Refuses BadTag) (reading k)) (Closes m to slash) h) [
         | inl p ↦ elim (cond_is (ltb i k && (get_or text (k - 1) 0 == 47)) (Closes (k - 1) (k + 1) true) (Closes k (k + 1) false) (Closes m to slash) p.1) [
-          | inl q ↦ (let parts = both_true (ltb i k) (get_or text (k - 1) 0 == 47) q.0 in
-              let l = ltb_lt i k parts.0 in
+          | inl q ↦ (let parts = and_parts (ltb i k) (get_or text (k - 1) 0 == 47) q.0 in
+              let l = ltb-true i k parts.0 in
               subst (ClosesAt i) (same_place (k - 1) m (k + 1) to true slash q.1) (omega arith, omega arith, inr (eqb-true (get_or text (k - 1) 0) 47 parts.1)))
           | inr q ↦ subst (ClosesAt i) (same_place k m (k + 1) to false slash q.1) (from, omega arith, inl (eqb-true (get_or text k 0) 62 p.0))
         ]
@@ -219,7 +206,7 @@ module _ (text : List ℕ) (n m : ℕ) (order : n ≤ m) (last : (get_or text m 
       (λ below. ap p (byte_in (run_end p text i) (omega (arith, run_end_from p text i)) (omega arith)) ∙ run_end_stops p text i (omega arith))
 
   run_stays : (p : ℕ → Bool) (i : ℕ) → i ≤ m → p (get_or text m 0) ≡ false → run_end p text i ≤ m
-  run_stays p i a h = elim (cases_lt m (run_end p text i)) [ inl past ↦ absurd (true_false _ (run_end_passes p text i m a past) h) | inr ok ↦ ok ]
+  run_stays p i a h = elim (cases_lt m (run_end p text i)) [ inl past ↦ absurd (both_ways _ h (run_end_passes p text i m a past)) | inr ok ↦ ok ]
 
   -- a byte is another in the slice where it is another in the page
   other_in : (c k : ℕ) → 0 < c → n ≤ k → (get_or text k 0 == c) ≡ false → (get_or s (k - n) 0 == c) ≡ false

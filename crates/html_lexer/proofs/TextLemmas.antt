@@ -3,7 +3,7 @@ use Rattle.std.proofs.Common.{◌≡◌, ℕ, ◌+◌, ◌<◌, ◌≤◌, ◌�
 use Rattle.std.specs.Prelude.{◌==◌, slice_range, codes}
 use Rattle.std.specs.Bool.{MatchBool}
 use Rattle.std.specs.Str.{str_eq_ignore_ascii_case}
-use Rattle.std.proofs.lemmas.Bool.{cases_lt}
+use Rattle.std.proofs.lemmas.Bool.{cases_lt, and_parts}
 use Rattle.std.proofs.lemmas.Bool.Decides.{nat_tests}
 use Rattle.text_base.specs.Text.{run_end, find_where, begins_with, is_space5, is_letter}
 use Rattle.text_base.specs.declared.reasons.PageReason.TheVariants.{BadTag, BadComment, BadMarkup}
@@ -24,7 +24,7 @@ use Rattle.html_lexer.specs.TokenLaws.{MarkupBegins, EndTagBegins, GoesUpTo, Pla
 use Rattle.html_lexer.proofs.PlainLemmas.{opens_at, other_moves, both}
 use Rattle.html_lexer.proofs.RawLemmas.{closes_at}
 use Rattle.html_lexer.proofs.RestLemmas.{find_first}
-use Rattle.html_lexer.proofs.SliceLemmas.{both_true, le_leb}
+use Rattle.html_lexer.proofs.SliceLemmas.{le_leb}
 
 -- which side of a choice holds
 pub choice : {A : Type 0} (b : Bool) (x y z : A) → cond b x y ≡ z → ((b ≡ true) × (x ≡ z)) ⊎ ((b ≡ false) × (y ≡ z))
@@ -246,7 +246,7 @@ module _ (text : List ℕ) where
 
   opens_markup : (k : ℕ) → opens (drop k text) ≡ true → MarkupBegins text k
   opens_markup k h =
-      let b = both_true (get_or text k 0 == 60) (is_opener (get_or text (k + 1) 0)) (sym (opens_at text k) ∙ h) in
+      let b = and_parts (get_or text k 0 == 60) (is_opener (get_or text (k + 1) 0)) (sym (opens_at text k) ∙ h) in
       (eqb-true (get_or text k 0) 60 b.0, opener_parts (get_or text (k + 1) 0) b.1)
 
   module _ (name : List ℕ) where
@@ -275,10 +275,10 @@ module _ (text : List ℕ) where
 
     pub closes_end : (k : ℕ) → k ≤ length text → closes name (drop k text) ≡ true → EndTagBegins name text k
     closes_end k l h =
-        let a = both_true (bracket_at k && slash_at k && has_letters text (k + 2) name) (ended_at k) (sym (closes_at name text k l) ∙ h) in
-        let b = both_true (bracket_at k && slash_at k) (has_letters text (k + 2) name) a.0 in
-        let c = both_true (bracket_at k) (slash_at k) b.0 in
-        let d = both_true (leb (k + 2 + length name) (length text)) (str_eq_ignore_ascii_case (slice_range text (k + 2) (k + 2 + length name)) name) b.1 in
+        let a = and_parts (bracket_at k && slash_at k && has_letters text (k + 2) name) (ended_at k) (sym (closes_at name text k l) ∙ h) in
+        let b = and_parts (bracket_at k && slash_at k) (has_letters text (k + 2) name) a.0 in
+        let c = and_parts (bracket_at k) (slash_at k) b.0 in
+        let d = and_parts (leb (k + 2 + length name) (length text)) (str_eq_ignore_ascii_case (slice_range text (k + 2) (k + 2 + length name)) name) b.1 in
         (eqb-true (get_or text k 0) 60 c.0, eqb-true (get_or text (k + 1) 0) 47 c.1, d.1, after_parts (after k) a.1)
 
   -- a text goes up to where the test first passes

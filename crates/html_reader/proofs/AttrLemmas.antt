@@ -3,7 +3,7 @@ use Rattle.std.proofs.lemmas.Bool.{or_left, or_right, eq-eqb}
 use Rattle.std.proofs.Common.{IsTrue, ◌||◌, ◌&&◌, eqb, ◌≡◌, ℕ, zero, suc, ◌+◌, ◌≤◌, ◌<◌, List, [], ◌∷◌, ◌++◌, map, length, take, get_or, false, sym, refl, ◌∙◌, ap, subst, arith, append_assoc, length-append, length-take}
 use Rattle.std.proofs.Common.{◌-◌, Option, Some, None, option_to_list, IsSome, ◌↔◌}
 use Rattle.html_reader.specs.inner.Parents.{Small, Within}
-use Rattle.html_reader.proofs.CalmLemmas.{within_flushed}
+use Rattle.html_reader.proofs.CalmLemmas.{text_few, within_flushed}
 use Rattle.std.proofs.lemmas.List.{get_or_append_left, length-map}
 use Rattle.html_reader.specs.declared.token.Attr as code
 use Rattle.doc_model.specs.declared.Kind.{Kind}
@@ -174,11 +174,6 @@ ends_in g f e waits left name text settles there inside named began =
   where
     no_cons : {n : ℕ} {ns : List ℕ} → n ∷ ns ≡ [] → ⊥
     no_cons h = cc
-
-text_few : (p : ℕ) (waits : List ℕ) → length (text_rows p waits) ≤ 1
-text_few zero waits = omega arith
-text_few (suc p) [] = omega arith
-text_few (suc p) (c ∷ cs) = omega arith
 
 -- a text makes one row at most
 pub settled_room : (g f : Growing) (waits left : List ℕ) → grown_of f left ≡ settled (grown_of g waits) → length f.rows ≤ length g.rows + 1

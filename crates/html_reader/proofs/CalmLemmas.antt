@@ -34,6 +34,12 @@ texts_pass p zero b waits h = refl
 texts_pass p (suc n) b [] h = refl
 texts_pass p (suc n) b (c ∷ cs) h = ap (λ e. cond (e && true) true b) (apart (suc n) p h)
 
+-- the text that waits makes one row at most
+pub text_few : (p : ℕ) (waits : List ℕ) → length (text_rows p waits) ≤ 1
+text_few zero waits = omega arith
+text_few (suc p) [] = omega arith
+text_few (suc p) (c ∷ cs) = omega arith
+
 pub length-flushed : (p : ℕ) (s : Sofar) → length s.rows ≤ length (flushed p s)
 length-flushed p s = omega (arith, length-append s.rows (text_rows p s.waits))
 
@@ -170,7 +176,7 @@ pub record IsCalm (g : Grown) : Type 0 where
   pub inside : Within g.sofar.rows
   pub calm : ends_in_text (innermost g.open_rows) false g.sofar.rows ≡ false
 
-calm_piece : (open_rows : List ℕ) (s : Sofar) (piece : Forest) → IsCalm (below open_rows s) → IsCalm (below open_rows (grown (innermost open_rows) s piece))
+pub calm_piece : (open_rows : List ℕ) (s : Sofar) (piece : Forest) → IsCalm (below open_rows s) → IsCalm (below open_rows (grown (innermost open_rows) s piece))
 calm_piece open_rows s piece h =
     record {
       there = omega (arith, h.there, length-grown (innermost open_rows) s piece);
@@ -178,7 +184,21 @@ calm_piece open_rows s piece h =
       calm = calm (innermost open_rows) s piece h.there h.calm;
     }
 
-base_calm : (made : Bool) → IsCalm (base made)
+-- after a start tag
+pub calm_entered : (open_rows : List ℕ) (s : Sofar) (tag : Tag) → IsCalm (below open_rows s) → IsCalm (below (length (flushed (innermost open_rows) s) ∷ open_rows) (entered (innermost open_rows) s tag))
+calm_entered open_rows s tag h =
+    let p = innermost open_rows in
+    let n = length (flushed p s) in
+    record {
+      there = length-entered p s tag;
+      inside = within_entered p s tag h.there h.inside;
+      calm =
+          ends_in_text-append n false (flushed p s) (tag_rows p n tag)
+          ∙ ap (λ b. ends_in_text n b (tag_rows p n tag)) (small_pass n n false (flushed p s) (omega arith) (within_flushed p s h.there h.inside))
+          ∙ tag_passes n p n false tag (λ e. omega (arith, e, h.there, length-flushed p s));
+    }
+
+pub base_calm : (made : Bool) → IsCalm (base made)
 base_calm false = record { there = omega arith; inside = (omega arith, tt); calm = refl }
 base_calm true = record { there = omega arith; inside = (omega arith, (omega arith, tt)); calm = refl }
 
@@ -186,16 +206,4 @@ pub place_calm : (made : Bool) (p : Place) → IsCalm (place_grown made p)
 place_calm made (outside piece) = calm_piece (base made).open_rows (base made).sofar piece (base_calm made)
 place_calm made (within before tag piece) =
     let g = place_grown made before in
-    let h = place_calm made before in
-    let p = innermost g.open_rows in
-    let s = g.sofar in
-    let n = length (flushed p s) in
-    calm_piece (n ∷ g.open_rows) (entered p s tag) piece
-    (record {
-      there = length-entered p s tag;
-      inside = within_entered p s tag h.there h.inside;
-      calm =
-          ends_in_text-append n false (flushed p s) (tag_rows p n tag)
-          ∙ ap (λ b. ends_in_text n b (tag_rows p n tag)) (small_pass n n false (flushed p s) (omega arith) (within_flushed p s h.there h.inside))
-          ∙ tag_passes n p n false tag (λ e. omega (arith, e, h.there, length-flushed p s));
-    })
+    calm_piece (length (flushed (innermost g.open_rows) g.sofar) ∷ g.open_rows) (entered (innermost g.open_rows) g.sofar tag) piece (calm_entered g.open_rows g.sofar tag (place_calm made before))

@@ -3,6 +3,7 @@
 use Rattle.std.proofs.Common.{◌≡◌, ℕ, ◌+◌, ◌≤◌, ◌<◌, List, [], ◌∷◌, ◌++◌, length, Bool, true, false, ◌&&◌, ◌||◌, sym, refl, ◌∙◌, ap, subst, arith, Option, Some, None, append_assoc, append-nil, ltb}
 use Rattle.std.specs.Prelude.{not, codes}
 use Rattle.std.proofs.lemmas.Bool.Decides.{nat_tests}
+use Rattle.std.proofs.lemmas.Bool.{both_ways}
 use Rattle.doc_model.specs.Document.{Row, no_row}
 use Rattle.html_reader.specs.Tokens.{Tag, Leaf, text, comment, doctype, Tok, starts, holds, Mark, token}
 use Rattle.html_reader.specs.Forest.{Forest, nothing, then_leaf, then_element, marks, close_of, depth, width, is_white, is_white_leaf}
@@ -233,10 +234,7 @@ behind_grown s (then_element tag inside inserted rest) = behind_grown (closed (b
 
 pub root_written : (made : Bool) (f : Forest) → Calm [] f → depth f ≤ most_open made → Written [] (whole_tree made f)
 root_written false f calm deep = outer_written f calm deep
-root_written true f calm deep = (refl, refl, sym html_not_void, (λ void. absurd (both void html_not_void)), omega arith, clean_written true [] [] f tt tt calm (omega (arith, deep)), tt)
-  where
-    both : {b : Bool} → b ≡ true → b ≡ false → ⊥
-    both h k = cc
+root_written true f calm deep = (refl, refl, sym html_not_void, (λ void. absurd (both_ways _ html_not_void void)), omega arith, clean_written true [] [] f tt tt calm (omega (arith, deep)), tt)
 
 root_deep : (made : Bool) (f : Forest) → Fits made (outside f) → depth f ≤ most_open made
 root_deep made f h = h.1
@@ -257,7 +255,7 @@ root_some false f h = omega (arith, outer_width f, ltb_is 0 (width f) (or_none (
     ltb_is a b h = grind (arith, nat_tests)
 
 -- the place is outside all elements
-outside_of : (p : Place) → open_tags p ≡ [] → (f : Forest) × (p ≡ outside f)
+pub outside_of : (p : Place) → open_tags p ≡ [] → (f : Forest) × (p ≡ outside f)
 outside_of (outside piece) e = (piece, refl)
 outside_of (within before tag piece) e = cc
 

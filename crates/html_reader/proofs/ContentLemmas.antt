@@ -3,7 +3,7 @@ use Rattle.std.proofs.Common.{◌≡◌, ◌≤◌, arith, inl, inr, ℕ, List, 
 use Rattle.std.specs.Prelude.{not}
 use Rattle.std.specs.List.{list_all, list_any}
 use Rattle.std.specs.Char.{is_ascii_uppercase, to_ascii_lowercase}
-use Rattle.std.proofs.lemmas.Bool.{cases_lt}
+use Rattle.std.proofs.lemmas.Bool.{cases_lt, both_ways, or_parts, and_parts, not-true}
 use Rattle.std.proofs.lemmas.Bool.Decides.{nat_tests}
 use Rattle.std.proofs.lemmas.Str.Ascii.{lowercase_is}
 use Rattle.char_refs.specs.References.{decoded, reference_of, first_piece, more_bytes, decoded_past}
@@ -13,32 +13,17 @@ lower_one : (c : ℕ) → is_ascii_uppercase c ≡ false → to_ascii_lowercase 
 lower_one c h =
     elim (cases_lt c 65) [
       | inl low ↦ (lowercase_is c).1 low
-      | inr past ↦ elim (cases_lt 90 c) [ inl high ↦ (lowercase_is c).2 high | inr within ↦ absurd (true_false (upper c past within) h) ]
+      | inr past ↦ elim (cases_lt 90 c) [ inl high ↦ (lowercase_is c).2 high | inr within ↦ absurd (both_ways _ h (upper c past within)) ]
     ]
   where
     upper : (c : ℕ) → 65 ≤ c → c ≤ 90 → is_ascii_uppercase c ≡ true
     upper c low high = grind (arith, nat_tests)
 
-    true_false : {b : Bool} → b ≡ true → b ≡ false → ⊥
-    true_false h k = cc
-
-neither : (a b : Bool) → (a || b) ≡ false → (a ≡ false) × (b ≡ false)
-neither true b h = cc
-neither false b h = (refl, h)
-
 pub lower_same : (name : List ℕ) → list_any is_ascii_uppercase name ≡ false → map to_ascii_lowercase name ≡ name
 lower_same [] h = refl
 lower_same (c ∷ cs) h =
-    let parts = neither (is_ascii_uppercase c) (list_any is_ascii_uppercase cs) h in
+    let parts = or_parts (is_ascii_uppercase c) (list_any is_ascii_uppercase cs) h in
     λ i. lower_one c parts.0 i ∷ lower_same cs parts.1 i
-
-both : (a b : Bool) → (a && b) ≡ true → (a ≡ true) × (b ≡ true)
-both true b h = (refl, h)
-both false b h = cc
-
-not_true : (b : Bool) → not b ≡ true → b ≡ false
-not_true true h = cc
-not_true false h = refl
 
 no_reference : (b : ℕ) (bs : List ℕ) → eqb b 38 ≡ false → reference_of (b ∷ bs) ≡ None
 no_reference b bs h = rw h refl
@@ -46,8 +31,8 @@ no_reference b bs h = rw h refl
 plain_decoded : (raw : List ℕ) → list_all (λ c. not (eqb c 38)) raw ≡ true → decoded raw ≡ raw
 plain_decoded [] h = refl
 plain_decoded (b ∷ bs) h =
-    let parts = both (not (eqb b 38)) (list_all (λ c. not (eqb c 38)) bs) h in
-    ap (λ r. first_piece r b ++ decoded_past bs (more_bytes r)) (no_reference b bs (not_true _ parts.0))
+    let parts = and_parts (not (eqb b 38)) (list_all (λ c. not (eqb c 38)) bs) h in
+    ap (λ r. first_piece r b ++ decoded_past bs (more_bytes r)) (no_reference b bs (not-true _ parts.0))
     ∙ ap (λ cs. b ∷ cs) (plain_decoded bs parts.1)
 
 pub plain_meant : (raw : List ℕ) → list_all (λ c. not (eqb c 38)) raw ≡ true → meant raw true ≡ raw

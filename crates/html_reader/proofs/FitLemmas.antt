@@ -1,6 +1,7 @@
 -- Places where no token is refused.
 use Rattle.std.proofs.Common.{◌≡◌, ℕ, ◌+◌, ◌<◌, List, [], ◌∷◌, length, Bool, true, false, ◌&&◌, cond, sym, refl, ◌∙◌, ap, subst, arith, Some, None, ltb}
 use Rattle.std.specs.Prelude.{max, not, ◌||◌}
+use Rattle.std.proofs.lemmas.Bool.{both_ways, and_parts}
 use Rattle.text_base.specs.declared.reasons.PageReason.{PageReason}
 use Rattle.text_base.specs.declared.reasons.PageReason.TheVariants.{StrayEnd, TextOutside, SecondRoot, Deep}
 use Rattle.std.specs.Str.{bytes_eq}
@@ -31,14 +32,10 @@ white-append nothing g = refl
 white-append (then_leaf leaf rest) g = ap (λ b. is_white_leaf leaf && b) (white-append rest g) ∙ and_assoc (is_white_leaf leaf) (is_white rest) (is_white g)
 white-append (then_element tag inside inserted rest) g = white-append rest g
 
-pub both_true : (a b : Bool) → (a && b) ≡ true → (a ≡ true) × (b ≡ true)
-both_true true b h = (refl, h)
-both_true false b h = cc
-
 -- a piece less
 root_less : (made : Bool) (piece f : Forest) → IsRootPiece made (append piece f) → IsRootPiece made piece
 root_less true piece f h = tt
-root_less false piece f h = ((both_true (is_white piece) (is_white f) (sym (white-append piece f) ∙ h.0)).0, omega (arith, h.1, width-append piece f))
+root_less false piece f h = ((and_parts (is_white piece) (is_white f) (sym (white-append piece f) ∙ h.0)).0, omega (arith, h.1, width-append piece f))
 
 pub fits_less : (made : Bool) (p : Place) (f : Forest) → Fits made (add p f) → Fits made p
 fits_less made (outside piece) f h = (root_less made piece f h.0, omega (arith, h.1, depth-append piece f))
@@ -80,13 +77,10 @@ fits_front made p (m ∷ w) q is h =
     let x = went p m w q is in
     fits_before made p x.place m x.is (fits_front made x.place w q x.rest h)
 
-true_false : {b : Bool} → b ≡ true → b ≡ false → ⊥
-true_false h k = cc
-
 -- what is refused can not stand where all fits
 second_refused : (made : Bool) (p : Place) → made ≡ false → open_tags p ≡ [] → (root_at made p).some ≡ true → CanStart made p → ⊥
 second_refused true p h e r can = cc
-second_refused false (outside piece) h e r can = true_false (or_false (not (is_white piece)) (ltb 0 (width piece)) r) (ap (ltb 0) can)
+second_refused false (outside piece) h e r can = both_ways _ (ap (ltb 0) can) (or_false (not (is_white piece)) (ltb 0 (width piece)) r)
   where
     or_false : (a b : Bool) → ((a && false) || b) ≡ true → b ≡ true
     or_false true b e = e
@@ -110,9 +104,9 @@ end_refused made p x name r h is = absurd h
 text_refused : (made : Bool) (p : Place) (leaf : Leaf) → made ≡ false → open_tags p ≡ [] → is_white_leaf leaf ≡ false → Fits made (add p (then_leaf leaf nothing)) → ⊥
 text_refused true p leaf m e r h = cc
 text_refused false (outside piece) leaf m e r h =
-    let two = both_true (is_white piece) (is_white_leaf leaf && true) (sym (white-append piece (then_leaf leaf nothing)) ∙ h.0.0) in
-    let one = both_true (is_white_leaf leaf) true two.1 in
-    true_false one.0 r
+    let two = and_parts (is_white piece) (is_white_leaf leaf && true) (sym (white-append piece (then_leaf leaf nothing)) ∙ h.0.0) in
+    let one = and_parts (is_white_leaf leaf) true two.1 in
+    both_ways _ r one.0
 text_refused false (within before tag piece) leaf m e r h = cc
 
 leaf_refused : (made : Bool) (p : Place) (leaf : Leaf) (reason : PageReason) → RefusesNext (open_tags p) (root_at made p) (Some (holds leaf)) reason → Fits made (add p (then_leaf leaf nothing)) → ⊥

@@ -5,6 +5,7 @@ use Rattle.std.specs.Str.{IsUtf8, bytes_eq, str_to_ascii_lowercase}
 use Rattle.std.proofs.lemmas.Slice.Eq.{bytes_eq-Decides}
 use Rattle.std.proofs.lemmas.List.{map-append, take_more}
 use Rattle.std.proofs.lemmas.List.Folds.{list_any-append}
+use Rattle.std.proofs.lemmas.Bool.{both_ways}
 use Rattle.char_refs.specs.References.{decoded}
 use Rattle.html_lexer.specs.declared.tags.Attribute.{Attribute}
 use Rattle.html_lexer.specs.declared.tags.AttrStep.TheVariants.{Reads}
@@ -20,15 +21,12 @@ use Rattle.html_reader.specs.inner.Keeping.{has_name, HaveTexts, Knows, HasKept,
 use Rattle.html_reader.proofs.KeptLemmas.{HaveNames, kept_are}
 use Rattle.html_reader.proofs.MoveLemmas.{read_moves}
 
-true_false : {b : Bool} → b ≡ true → b ≡ false → ⊥
-true_false h k = cc
-
 flip : (a b : List ℕ) (c : Bool) → bytes_eq a b ≡ c → bytes_eq b a ≡ c
 flip a b true h = (bytes_eq-Decides b a).1 (sym ((bytes_eq-Decides a b).0 h))
 flip a b false h = by_test (bytes_eq b a) refl
   where
     by_test : (d : Bool) → bytes_eq b a ≡ d → d ≡ false
-    by_test true k = absurd (true_false ((bytes_eq-Decides a b).1 (sym ((bytes_eq-Decides b a).0 k))) h)
+    by_test true k = absurd (both_ways _ h ((bytes_eq-Decides a b).1 (sym ((bytes_eq-Decides b a).0 k))))
     by_test false k = refl
 
 -- attributes of other names

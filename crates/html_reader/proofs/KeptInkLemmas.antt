@@ -5,6 +5,7 @@ use Rattle.std.specs.List.{AllPass}
 use Rattle.std.specs.Str.{bytes_eq, chars, str_to_ascii_lowercase}
 use Rattle.std.proofs.lemmas.Str.{inside_one}
 use Rattle.std.proofs.lemmas.Bool.Decides.{nat_tests}
+use Rattle.std.proofs.lemmas.Bool.{both_ways}
 use Rattle.text_base.specs.Text.{is_not_byte}
 use Rattle.text_base.proofs.Text.{encode-chars}
 use Rattle.char_refs.specs.References.{decoded}
@@ -16,7 +17,7 @@ use Rattle.html_lexer.specs.TokenLaws.{IsQuotable}
 use Rattle.html_lexer.proofs.AttrCutLemmas.{ArePairs}
 use Rattle.html_reader.specs.Tokens.{Attr}
 use Rattle.html_reader.specs.Contents.{kept, without}
-use Rattle.html_reader.proofs.InkLemmas.{ink_text, ink_pair}
+use Rattle.html_reader.proofs.InkParts.{ink_text, ink_pair}
 use Rattle.html_reader.proofs.LowerLemmas.{lower_twice, lower_length, attr_lower, lower_utf8}
 
 -- an attribute that can be written, and different ones
@@ -103,9 +104,6 @@ all_chars_append : (a b : List ℕ) → AllChars a → AllChars b → AllChars (
 all_chars_append [] b h k = k
 all_chars_append (c ∷ a) b h k = (h.0, all_chars_append a b h.1 k)
 
-both : {b : Bool} → b ≡ true → b ≡ false → ⊥
-both h k = cc
-
 choose : {A : Type 0} (P : A → Type 0) (b : Bool) (x y : A) → (b ≡ true → P x) → (b ≡ false → P y) → P (cond b x y)
 choose P true x y h k = h refl
 choose P false x y h k = k refl
@@ -115,10 +113,10 @@ escape_quote c =
     choose AllChars (eqb c 38) (codes "&amp;") _ (λ e. (n 38 refl, (n 97 refl, (n 109 refl, (n 112 refl, (n 59 refl, tt))))))
     (λ amp. choose AllChars (eqb c 34) (codes "&quot;") _ (λ e. (n 38 refl, (n 113 refl, (n 117 refl, (n 111 refl, (n 116 refl, (n 59 refl, tt)))))))
     (λ quot. choose AllChars (eqb c 160) (codes "&nbsp;") _ (λ e. (n 38 refl, (n 110 refl, (n 98 refl, (n 115 refl, (n 112 refl, (n 59 refl, tt)))))))
-    (λ nbsp. choose AllChars (eqb c 13) (codes "&#13;") _ (λ e. (n 38 refl, (n 35 refl, (n 49 refl, (n 51 refl, (n 59 refl, tt)))))) (λ cr. ((λ e. both (eq-eqb c 34 e) quot), tt)))))
+    (λ nbsp. choose AllChars (eqb c 13) (codes "&#13;") _ (λ e. (n 38 refl, (n 35 refl, (n 49 refl, (n 51 refl, (n 59 refl, tt)))))) (λ cr. ((λ e. both_ways _ quot (eq-eqb c 34 e)), tt)))))
   where
     n : (k : ℕ) → eqb k 34 ≡ false → k ≡ 34 → ⊥
-    n k h e = both (eq-eqb k 34 e) h
+    n k h e = both_ways _ h (eq-eqb k 34 e)
 
 escaped_quote : (cs : List ℕ) → AllChars (flat_map (escape true true) cs)
 escaped_quote [] = tt

@@ -3,6 +3,7 @@ use Rattle.std.proofs.Common.{◌≡◌, ℕ, List, [], ◌∷◌, Bool, true, f
 use Rattle.std.specs.Prelude.{◌≢◌}
 use Rattle.std.specs.Str.{IsUtf8, bytes_eq, str_to_ascii_lowercase}
 use Rattle.std.proofs.lemmas.Slice.Eq.{bytes_eq-Decides}
+use Rattle.std.proofs.lemmas.Bool.{both_ways}
 use Rattle.text_base.proofs.Text.{same_bytes}
 use Rattle.html_reader.specs.Tokens.{Attr}
 use Rattle.html_reader.specs.inner.Kept.{IsNew, AreKept}
@@ -14,9 +15,6 @@ use Rattle.html_reader.proofs.PieceLemmas.{some_chars}
 abbrev pub HaveNames : List (List ℕ × List ℕ) → Type 0
 HaveNames [] = Unit {0}
 HaveNames (p ∷ written) = (p.0 ≢ []) × HaveNames written
-
-true_false : {b : Bool} → b ≡ true → b ≡ false → ⊥
-true_false h k = cc
 
 texts_back : (name : List ℕ) (attrs : List Attr) → IsUtf8 name → HaveTexts (without name attrs) → HaveTexts attrs
 texts_back name [] u h = tt
@@ -48,7 +46,7 @@ new_after name (a ∷ attrs) u h = by_test (bytes_eq a.name name) refl (new_afte
   where
     by_test : (b : Bool) → bytes_eq a.name name ≡ b → IsNew name (without name attrs) → IsNew name (cond b (without name attrs) (a ∷ without name attrs))
     by_test true is k = k
-    by_test false is k = ((λ e. true_false ((bytes_eq-Decides a.name name).1 (same_bytes a.name name h.0 u e)) is), k)
+    by_test false is k = ((λ e. both_ways _ is ((bytes_eq-Decides a.name name).1 (same_bytes a.name name h.0 u e))), k)
 
 pub lower_some : (name : List ℕ) → name ≢ [] → str_to_ascii_lowercase name ≢ []
 lower_some [] h e = h refl

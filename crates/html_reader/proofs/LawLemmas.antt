@@ -1,5 +1,6 @@
 -- Tokens build one document, or have one fault.
 use Rattle.std.proofs.Common.{◌≡◌, List, [], Bool, true, false, ◌∙◌, ap, None}
+use Rattle.std.proofs.lemmas.Bool.{both_ways}
 use Rattle.text_base.specs.declared.reasons.PageReason.{PageReason}
 use Rattle.text_base.specs.declared.reasons.PageReason.TheVariants.{Unclosed, NoRoot}
 use Rattle.doc_model.specs.Document.{Document}
@@ -16,10 +17,7 @@ document_law made tokens doc other h k = one_document tokens doc other h k
 -- the end is refused only where an element is open or there was no root element
 pub end_goes : (tags : List Tag) (rooted : Root) (reason : PageReason) → tags ≡ [] → rooted.some ≡ true → RefusesNext tags rooted None reason → ⊥
 end_goes tags rooted Unclosed none some h = h none
-end_goes tags rooted NoRoot none some h = true_false some h.1
-  where
-    true_false : {b : Bool} → b ≡ true → b ≡ false → ⊥
-    true_false h k = cc
+end_goes tags rooted NoRoot none some h = both_ways _ h.1 some
 end_goes tags rooted reason none some h = h
 
 ends : (made : Bool) (tokens : List Tok) (reason : PageReason) (doc : Document) → Refuses made tokens None reason → Builds made tokens doc → ⊥

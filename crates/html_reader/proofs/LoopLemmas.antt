@@ -84,7 +84,7 @@ begins_at page i (comment_tok from to body) h = h.0
 begins_at page i (doctype_tok from to) h = h.0
 
 -- how many rows it makes
-few_rows : (page before : List ℕ) (i : ℕ) (x : Lexed) (t : Tok) → Lies page i x → Means before x t → i + most_rows t + 1 + 4 * i ≤ i + 4 * end_of x
+pub few_rows : (page before : List ℕ) (i : ℕ) (x : Lexed) (t : Tok) → Lies page i x → Means before x t → i + most_rows t + 1 + 4 * i ≤ i + 4 * end_of x
 few_rows page before i (start_tok from to name attrs slash) t h means =
     subst (λ u. i + most_rows u + 1 + 4 * i ≤ i + 4 * to) (sym means.2)
     (omega (arith, h, written_few attrs 0 means.0 means.1, length-kept means.0))

@@ -5,7 +5,7 @@ use Rattle.std.specs.List.{AllPass, list_all, list_any}
 use Rattle.std.specs.Char.{to_ascii_lowercase}
 use Rattle.std.specs.Str.{bytes_eq, str_to_ascii_lowercase, all_scalars}
 use lib.Utf8.{scalar}
-use Rattle.std.proofs.lemmas.Bool.{cases_lt}
+use Rattle.std.proofs.lemmas.Bool.{cases_lt, not-true, and_parts}
 use Rattle.std.proofs.lemmas.Str.{IsUtf8-nil, IsUtf8-append, IsUtf8-encode, encode_ascii, inside_one}
 use Rattle.std.proofs.lemmas.Str.Ascii.{lowercase_ascii}
 use Rattle.std.proofs.lemmas.List.{length-map, map-append}
@@ -81,10 +81,6 @@ tag_lower name h =
     first_of (c ∷ s) q = letter c q
 
 -- what holds of all names of a table of the lexer
-and_parts : (a b : Bool) → (a && b) ≡ true → (a ≡ true) × (b ≡ true)
-and_parts true b h = (refl, h)
-and_parts false b h = cc
-
 pub each_lower : (p : List ℕ → Bool) (names : List (List ℕ)) (name : List ℕ) → list_all (λ n. p (str_to_ascii_lowercase n)) names ≡ true → is_one_of names name ≡ true → p (str_to_ascii_lowercase name) ≡ true
 each_lower p [] name all h = cc
 each_lower p (n ∷ names) name all h =
@@ -111,10 +107,6 @@ no_newline_table : list_all (λ n. not (takes_newline (str_to_ascii_lowercase n)
 unfolding literal_names newline_names
 no_newline_table = refl
 
-not_true : (b : Bool) → not b ≡ true → b ≡ false
-not_true true h = cc
-not_true false h = refl
-
 pub all_pass : (p : ℕ → Bool) (s : List ℕ) → list_all p s ≡ true → AllPass p s
 all_pass p [] h k d l = absurd (omega arith)
 all_pass p (c ∷ s) h zero d l = (and_parts (p c) (list_all p s) h).0
@@ -127,7 +119,7 @@ raw_parts : (name : List ℕ) → is_raw_name name ≡ true → RawName name
 raw_parts name h =
     let a = and_parts (list_all is_letter name) (not (is_void name) && not (may_omit_end name)) h in
     let b = and_parts (not (is_void name)) (not (may_omit_end name)) a.1 in
-    (all_pass is_letter name a.0, not_true (is_void name) b.0, not_true (may_omit_end name) b.1)
+    (all_pass is_letter name a.0, not-true (is_void name) b.0, not-true (may_omit_end name) b.1)
 
 pub raw_name : (name : List ℕ) → is_raw name ≡ true → RawName (str_to_ascii_lowercase name)
 raw_name name h = raw_parts (str_to_ascii_lowercase name) (by_table (is_one_of literal_names name) refl h)
@@ -138,7 +130,7 @@ raw_name name h = raw_parts (str_to_ascii_lowercase name) (by_table (is_one_of l
 
 -- raw text that is taken as it is takes no newline
 pub literal_newline : (name : List ℕ) → is_raw name ≡ true → is_escapable name ≡ false → takes_newline (str_to_ascii_lowercase name) ≡ false
-literal_newline name h e = not_true (takes_newline (str_to_ascii_lowercase name)) (each_lower (λ n. not (takes_newline n)) literal_names name no_newline_table (first (is_one_of literal_names name) (is_escapable name) h e))
+literal_newline name h e = not-true (takes_newline (str_to_ascii_lowercase name)) (each_lower (λ n. not (takes_newline n)) literal_names name no_newline_table (first (is_one_of literal_names name) (is_escapable name) h e))
   where
     first : (a b : Bool) → (a || b) ≡ true → b ≡ false → a ≡ true
     first true b h e = refl

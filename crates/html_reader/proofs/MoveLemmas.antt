@@ -4,6 +4,7 @@ use Rattle.std.specs.Prelude.{◌==◌, slice_range, codes}
 use Rattle.std.specs.Bool.{MatchBool}
 use Rattle.std.proofs.lemmas.Bool.Decides.{nat_tests}
 use Rattle.std.proofs.lemmas.Slice.Eq.{bytes_eq-Decides}
+use Rattle.std.proofs.lemmas.Bool.{and_parts, eqb-true, ltb-true, leb-false}
 use Rattle.text_base.specs.Text.{run_end, find_where, begins_with, is_not_byte, is_space5, is_letter}
 use Rattle.text_base.proofs.Boundaries.{in_text}
 use Rattle.text_base.proofs.Runs.{run_end_from, run_end_le, run_end_moves}
@@ -28,19 +29,6 @@ pick : {A : Type 0} (P : A → Type 0) (b : Bool) (x y : A) → (b ≡ true → 
 pick P true x y h k = h refl
 pick P false x y h k = k refl
 
-both_true : (a b : Bool) → (a && b) ≡ true → (a ≡ true) × (b ≡ true)
-both_true true b h = (refl, h)
-both_true false b h = cc
-
-is_byte : (a b : ℕ) → (a == b) ≡ true → a ≡ b
-is_byte a b h = grind (arith, nat_tests)
-
-ltb_lt : (a b : ℕ) → ltb a b ≡ true → a < b
-ltb_lt a b h = grind (arith, nat_tests)
-
-leb_lt : (a b : ℕ) → leb a b ≡ false → b < a
-leb_lt a b h = grind (arith, nat_tests)
-
 -- An attribute and the end of a tag lie where the step begins or after it, in the text. A refusal has one of the reasons
 -- of a page.
 abbrev pub Moves : List ℕ → ℕ → AttrStep → Type 0
@@ -50,13 +38,13 @@ Moves text i (Refuses reason) = IsPageReason reason
 
 -- a byte that is not 0 stands in the text
 has_byte : (text : List ℕ) (i b : ℕ) → (get_or text i 0 == b) ≡ true → 0 < b → i < length text
-has_byte text i b h some = in_text text i (omega (arith, is_byte (get_or text i 0) b h))
+has_byte text i b h some = in_text text i (omega (arith, eqb-true (get_or text i 0) b h))
 
 quoted_moves : (text : List ℕ) (i name name_to v : ℕ) → i ≤ name → name < name_to → name_to ≤ v → v < length text → Moves text i (quoted text name name_to v)
 quoted_moves text i name name_to v low some past within =
     let q = run_end (is_not_byte (get_or text v 0)) text (v + 1) in
     pick (Moves text i) (ltb q (length text)) _ _
-    (λ h. (low, some, omega (arith, run_end_from (is_not_byte (get_or text v 0)) text (v + 1)), omega (arith, ltb_lt q (length text) h)))
+    (λ h. (low, some, omega (arith, run_end_from (is_not_byte (get_or text v 0)) text (v + 1)), omega (arith, ltb-true q (length text) h)))
     (λ h. tt)
 
 valued_moves : (text : List ℕ) (i name name_to v : ℕ) → i ≤ name → name < name_to → name_to ≤ v → v ≤ length text → Moves text i (valued text name name_to v)
@@ -87,9 +75,9 @@ attr_moves text i =
     (λ h.
     let within : k < length text = has_byte text k 62 h (omega arith) in
     pick (Moves text i) (ltb i k && (get_or text (k - 1) 0 == 47)) _ _
-    (λ s. let l = ltb_lt i k (both_true _ _ s).0 in (omega arith, omega arith, omega arith))
+    (λ s. let l = ltb-true i k (and_parts _ _ s).0 in (omega arith, omega arith, omega arith))
     (λ s. (low, omega arith, omega arith)))
-    (λ h. pick (Moves text i) (leb (length text) k) _ _ (λ l. tt) (λ l. pick (Moves text i) (is_attr_byte (get_or text k 0)) _ _ (named_moves text i k low (leb_lt (length text) k l)) (λ a. tt)))
+    (λ h. pick (Moves text i) (leb (length text) k) _ _ (λ l. tt) (λ l. pick (Moves text i) (is_attr_byte (get_or text k 0)) _ _ (named_moves text i k low (leb-false (length text) k l)) (λ a. tt)))
 
 pub read_moves : (text : List ℕ) (i : ℕ) (a : Attribute) → attr_at text i ≡ Reads a → Moves text i (Reads a)
 read_moves text i a e = subst (Moves text i) e (attr_moves text i)
@@ -136,7 +124,7 @@ end_moves text i =
     let m = run_end is_space5 text n in
     pick (StepMoves text i) (is_letter (get_or text (i + 2) 0) && (get_or text m 0 == 62)) _ _
     (λ h.
-    let within : m < length text = has_byte text m 62 (both_true (is_letter (get_or text (i + 2) 0)) (get_or text m 0 == 62) h).1 (omega arith) in
+    let within : m < length text = has_byte text m 62 (and_parts (is_letter (get_or text (i + 2) 0)) (get_or text m 0 == 62) h).1 (omega arith) in
     (omega (arith, run_end_from is_name_byte text (i + 2), run_end_from is_space5 text n), omega arith))
     (λ h. tt)
 
@@ -154,27 +142,27 @@ comment_moves text i t low within =
     (λ h. pick (StepMoves text i) (leb (length text) e) _ _ (λ h. tt)
     (λ some. pick (StepMoves text i) (has_bang_end (slice_range text t e)) _ _ (λ h. tt)
     (λ h.
-    let inside : e < length text = leb_lt (length text) e some in
+    let inside : e < length text = leb-false (length text) e some in
     let fits : e + 3 ≤ length text = needle_fits text (codes "-->") e inside (found.2 inside) in
     (omega (arith, low, found.0), fits)))))
 
 doctype_moves : (text : List ℕ) (i : ℕ) → StepMoves text i (doctype_at text i)
 doctype_moves text i =
     pick (StepMoves text i) (ltb (bracket text i) (length text)) _ _
-    (λ h. let l = ltb_lt (bracket text i) (length text) h in (omega (arith, run_end_from (is_not_byte 62) text i), omega (arith, l)))
+    (λ h. let l = ltb-true (bracket text i) (length text) h in (omega (arith, run_end_from (is_not_byte 62) text i), omega (arith, l)))
     (λ h. tt)
 
 query_moves : (text : List ℕ) (i : ℕ) → StepMoves text i (query_at text i)
 query_moves text i =
     pick (StepMoves text i) (ltb (bracket text (i + 1)) (length text)) _ _
-    (λ h. let l = ltb_lt (bracket text (i + 1)) (length text) h in (omega (arith, run_end_from (is_not_byte 62) text (i + 1)), omega (arith, l)))
+    (λ h. let l = ltb-true (bracket text (i + 1)) (length text) h in (omega (arith, run_end_from (is_not_byte 62) text (i + 1)), omega (arith, l)))
     (λ h. tt)
 
 declaration_moves : (text : List ℕ) (i : ℕ) → StepMoves text i (declaration_at text i)
 declaration_moves text i =
     pick (StepMoves text i) ((get_or text (i + 2) 0 == 45) && (get_or text (i + 3) 0 == 45)) _ _
     (λ h.
-    let l : i + 3 < length text = has_byte text (i + 3) 45 (both_true (get_or text (i + 2) 0 == 45) (get_or text (i + 3) 0 == 45) h).1 (omega arith) in
+    let l : i + 3 < length text = has_byte text (i + 3) 45 (and_parts (get_or text (i + 2) 0 == 45) (get_or text (i + 3) 0 == 45) h).1 (omega arith) in
     comment_moves text i (i + 4) (omega arith) (omega arith))
     (λ h. pick (StepMoves text i) (has_letters text (i + 2) (codes "doctype")) _ _ (λ d. doctype_moves text i) (λ d. tt))
 
@@ -213,7 +201,7 @@ start_moves text i n step some h =
 
 name_ends : (text : List ℕ) (i : ℕ) → starts_at text i ≡ true → i + 1 < run_end is_name_byte text (i + 1)
 name_ends text i h =
-    let letter = (both_true (get_or text i 0 == 60) (is_letter (get_or text (i + 1) 0)) h).1 in
+    let letter = (and_parts (get_or text i 0 == 60) (is_letter (get_or text (i + 1) 0)) h).1 in
     run_end_moves is_name_byte text (i + 1) (run_end is_name_byte text (i + 1)) refl (in_text text (i + 1) (letter_some (get_or text (i + 1) 0) letter)) (letter_is_name (get_or text (i + 1) 0) letter)
 
 markup_moves : (text : List ℕ) (i : ℕ) (step : Step) → i < length text → MarkupAt text i step → StepMoves text i step
@@ -228,7 +216,7 @@ raw_within text name i l = pick (λ n. n ≤ length text) (is_raw name) _ _ (λ 
 pub step_moves : (text name : List ℕ) (i : ℕ) (step : Step) → StepAt text name i step → StepMoves text i step
 step_moves text name i step h =
     by_bool text i step (ltb i (raw_end text name i)) _ _ h.1
-    (λ b k. subst (StepMoves text i) (sym k) (ltb_lt i (raw_end text name i) b, raw_within text name i h.0))
+    (λ b k. subst (StepMoves text i) (sym k) (ltb-true i (raw_end text name i) b, raw_within text name i h.0))
     (λ b k. markup_moves text i step h.0 k)
 
 -- something begins at each place before the end

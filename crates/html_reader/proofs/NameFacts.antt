@@ -4,14 +4,11 @@ use Rattle.std.specs.Prelude.{not}
 use Rattle.std.specs.List.{list_all}
 use Rattle.std.specs.Str.{bytes_eq}
 use Rattle.std.proofs.lemmas.Slice.Eq.{bytes_eq-Decides}
+use Rattle.std.proofs.lemmas.Bool.{not-true, and_parts}
 use Rattle.html_lexer.specs.Names.{is_raw, literal_names, escapable_names}
 use Rattle.text_base.specs.Strings.{is_among}
 use Rattle.html_reader.specs.Tables.{is_void, void_names}
 use Rattle.html_reader.specs.Contents.{takes_newline, newline_names}
-
-and_parts : (a b : Bool) → (a && b) ≡ true → (a ≡ true) × (b ≡ true)
-and_parts true b h = (refl, h)
-and_parts false b h = cc
 
 -- a test that all names of a table pass is passed by each
 pub each_passes : (p : List ℕ → Bool) (names : List (List ℕ)) (name : List ℕ) → list_all p names ≡ true → is_among name names ≡ true → p name ≡ true
@@ -31,12 +28,8 @@ void_table : list_all is_plain void_names ≡ true
 unfolding void_names literal_names escapable_names newline_names
 void_table = refl
 
-not_true : (b : Bool) → not b ≡ true → b ≡ false
-not_true true h = cc
-not_true false h = refl
-
 -- void elements have no raw text and take no newline
 pub void_plain : (name : List ℕ) → is_void name ≡ true → (is_raw name ≡ false) × (takes_newline name ≡ false)
 void_plain name h =
     let two = and_parts (not (is_raw name)) (not (takes_newline name)) (each_passes is_plain void_names name void_table h) in
-    (not_true (is_raw name) two.0, not_true (takes_newline name) two.1)
+    (not-true (is_raw name) two.0, not-true (takes_newline name) two.1)

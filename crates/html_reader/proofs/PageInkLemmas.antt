@@ -4,6 +4,7 @@ use Rattle.std.specs.Prelude.{◌==◌, slice_range, codes, not}
 use Rattle.std.specs.List.{AllPass, list_any}
 use Rattle.std.specs.Str.{bytes_eq, str_to_ascii_lowercase}
 use Rattle.std.proofs.lemmas.Str.{IsUtf8-nil, IsUtf8-append, IsUtf8-drop, IsCharBoundary-after_ascii}
+use Rattle.std.proofs.lemmas.Bool.{false_from_ne_true}
 use Rattle.text_base.specs.Text.{is_letter, IsPlace}
 use Rattle.text_base.proofs.Boundaries.{at_start}
 use Rattle.char_refs.proofs.DecodedLemmas.{decoded_utf8}
@@ -15,7 +16,8 @@ use Rattle.html_lexer.specs.Attributes.{Writes}
 use Rattle.html_lexer.specs.Lexing.{Begins, Spell}
 use Rattle.html_lexer.proofs.BackLemmas.{NoEnd, no_end}
 use Rattle.html_lexer.proofs.CommentLemmas.{comment_text}
-use Rattle.html_lexer.proofs.CutLemmas.{TagFacts, IsCutTok, cut_tok, cut_end, IsEndTok, RawFirst, raw_first, after_raw}
+use Rattle.html_lexer.proofs.CutLemmas.{TagFacts, IsCutTok, IsEndTok, RawFirst, raw_first, after_raw}
+use Rattle.html_lexer.proofs.CutPlaces.{cut_tok, cut_end}
 use Rattle.html_lexer.proofs.AttrCutLemmas.{pairs_cut}
 use Rattle.html_lexer.proofs.TextLemmas.{closes_end}
 use Rattle.html_reader.specs.Tokens.{Tag, text, comment, doctype, Tok, starts, ends, holds, Mark, token, shut}
@@ -30,7 +32,8 @@ use Rattle.html_reader.proofs.PlaceLemmas.{add, lone, add-marks}
 use Rattle.html_reader.proofs.NameFacts.{void_plain}
 use Rattle.html_reader.proofs.LowerLemmas.{all_pass, lower_utf8, lower_twice, raw_lower, escapable_lower, end_lower, tag_lower, RawName, raw_name, literal_newline, takes_lower}
 use Rattle.html_reader.proofs.KeptInkLemmas.{AreInk, kept_ink, kept_again, all_quotable}
-use Rattle.html_reader.proofs.InkLemmas.{IsInkTag, IsInkComment, IsRawText, IsRawInside, Inside, NotText, IsInk}
+use Rattle.html_reader.proofs.InkLemmas.{IsRawInside, Inside, NotText, IsInk}
+use Rattle.html_reader.proofs.InkParts.{IsInkTag, IsInkComment, IsRawText}
 use Rattle.html_reader.proofs.CleanLemmas.{plain_tag, text_leaf, clean, outer, html_tag, whole_tree, Calm, calm_of}
 
 -- what the tokens of a page are
@@ -94,17 +97,13 @@ content_utf8 name raw refs u = by_takes (takes_newline name)
     by_takes true = newline_utf8 (meant raw refs) (meant_utf8 raw refs u)
     by_takes false = meant_utf8 raw refs u
 
-is_false : (b : Bool) → (b ≡ true → ⊥) → b ≡ false
-is_false true h = absurd (h refl)
-is_false false h = refl
-
 -- raw text holds no end tag of its element
 raw_slice : (page name : List ℕ) (i to : ℕ) → GoesUpTo (EndTagBegins name page) page i to → NoEnd name (slice_range page i to)
 raw_slice page name i to g =
     let low = g.some in
     let high = g.within in
     no_end name (drop i page) (to - i) (omega (arith, length-drop i page))
-    (λ k l. is_false (closes name (drop k (drop i page))) (λ e. g.before (i + k) (omega arith) (omega arith) (closes_end page name (i + k) (omega arith) (ap (closes name) (sym (drop-drop k i page)) ∙ e))))
+    (λ k l. false_from_ne_true (closes name (drop k (drop i page))) (λ e. g.before (i + k) (omega arith) (omega arith) (closes_end page name (i + k) (omega arith) (ap (closes name) (sym (drop-drop k i page)) ∙ e))))
 
 raw_content : (page name : List ℕ) (i to : ℕ) (raw : List ℕ) (refs : Bool) → is_raw name ≡ true → raw ≡ slice_range page i to → refs ≡ is_escapable name → GoesUpTo (EndTagBegins name page) page i to → IsRawText (str_to_ascii_lowercase name) (content name raw refs)
 raw_content page name i to raw refs is at r g = by_kind (is_escapable name) refl

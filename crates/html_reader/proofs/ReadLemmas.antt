@@ -21,6 +21,7 @@ use Rattle.text_base.specs.declared.reasons.PageFault.{PageFault}
 use Rattle.html_reader.proofs.RoomLemmas.{step_room, step_made}
 use Rattle.html_reader.proofs.StepLemmas.{reach_shuts, reach_token, reach_refused, reach_leads, shuts_made}
 use Rattle.html_reader.proofs.SoundLemmas.{reached_sound}
+use Rattle.html_reader.proofs.CalmLemmas.{text_few}
 
 pub mid_sound : (next : Option Tok) (old mid : State) → mid ≡ shuts next old → IsLed old → IsSound mid
 mid_sound next old mid is h = subst IsSound (sym is) (reached_sound next (shuts next old) (record { tokens = h.tokens; reached = (reach_shuts h.tokens next old.tags old.rooted old.grown (h.led next)).0 }))
@@ -35,13 +36,8 @@ refuses_token old mid t reason is refused tokens led =
     let r = reach_shuts tokens (Some t) old.tags old.rooted old.grown (led (Some t)) in
     subst (λ m. Refuses m tokens (Some t) reason) (shuts_made (Some t) old.tags old.rooted old.grown) (reach_refused tokens t (shuts (Some t) old) reason r.0 r.1 (ap (λ s. step s t) (sym is) ∙ refused))
 
-few : (p : ℕ) (waits : List ℕ) → length (text_rows p waits) ≤ 1
-few zero waits = omega arith
-few (suc p) [] = omega arith
-few (suc p) (c ∷ cs) = omega arith
-
 closing_rows : (g : Grown) → length (closing g).sofar.rows ≤ length g.sofar.rows + 1
-closing_rows g = omega (arith, length-append g.sofar.rows (text_rows (innermost g.open_rows) g.sofar.waits), few (innermost g.open_rows) g.sofar.waits)
+closing_rows g = omega (arith, length-append g.sofar.rows (text_rows (innermost g.open_rows) g.sofar.waits), text_few (innermost g.open_rows) g.sofar.waits)
 
 after_size : (next : Option Tok) (tags : List Tag) (rooted : Root) (g : Grown) → size (after_shuts next tags rooted g) ≤ length g.sofar.rows + length tags
 after_size next [] rooted g = omega arith

@@ -12,14 +12,10 @@ use Rattle.html_reader.specs.Places.{most_open}
 use Rattle.html_reader.specs.inner.States.{most_rows}
 use Rattle.html_reader.specs.inner.Taking.{size}
 use Rattle.html_reader.proofs.StepLemmas.{guard_ok, same_ok}
-
-few : (p : ℕ) (waits : List ℕ) → length (text_rows p waits) ≤ 1
-few zero waits = omega arith
-few (suc p) [] = omega arith
-few (suc p) (c ∷ cs) = omega arith
+use Rattle.html_reader.proofs.CalmLemmas.{text_few}
 
 flush_room : (s : State) → length (flushed (innermost s.grown.open_rows) s.grown.sofar) ≤ length s.grown.sofar.rows + 1
-flush_room s = omega (arith, length-append s.grown.sofar.rows (text_rows (innermost s.grown.open_rows) s.grown.sofar.waits), few (innermost s.grown.open_rows) s.grown.sofar.waits)
+flush_room s = omega (arith, length-append s.grown.sofar.rows (text_rows (innermost s.grown.open_rows) s.grown.sofar.waits), text_few (innermost s.grown.open_rows) s.grown.sofar.waits)
 
 open_room : (s : State) (tag : Tag) → size (opened s tag) ≤ size s + (2 + length tag.attrs) + 1
 open_room s tag =

@@ -7,7 +7,7 @@ use Rattle.doc_model.specs.Growing.{innermost}
 use Rattle.html_reader.specs.inner.Machine.{State, shuts}
 use Rattle.html_reader.specs.inner.States.{IsSound, made_count}
 use Rattle.html_reader.specs.declared.reader.Root.{Root}
-use Rattle.html_reader.proofs.CalmLemmas.{place_calm, length-flushed}
+use Rattle.html_reader.proofs.CalmLemmas.{text_few, place_calm, length-flushed}
 use Rattle.html_reader.specs.inner.Reached.{state_at, IsReached}
 use Rattle.html_reader.specs.Words.{is_shut}
 use Rattle.html_reader.specs.inner.Machine.{closed, after_shuts, state, without_first}
@@ -47,11 +47,6 @@ pub none_tags : (next : Option Tok) (tags : List Tag) (rooted : Root) (g : Grown
 none_tags next [] rooted g h = refl
 none_tags next (tag ∷ before) rooted g h = rw h refl
 
-few : (p : ℕ) (waits : List ℕ) → length (text_rows p waits) ≤ 1
-few zero waits = omega arith
-few (suc p) [] = omega arith
-few (suc p) (c ∷ cs) = omega arith
-
 closed_tags : (next : Option Tok) (s : State) → is_shut s.tags next ≡ true → length (closed s).tags + 1 ≡ length s.tags
 closed_tags next s h = by_tags s.tags h
   where
@@ -61,7 +56,7 @@ closed_tags next s h = by_tags s.tags h
 
 pub closed_room : (next : Option Tok) (s t : State) (most : ℕ) → t ≡ closed s → is_shut s.tags next ≡ true → length s.grown.sofar.rows + length s.tags + 1 < most → length t.grown.sofar.rows + length t.tags + 1 < most
 closed_room next s t most is h room =
-    omega (arith, room, ap (λ (x : State). length x.tags) is, closed_tags next s h, ap (λ (x : State). length x.grown.sofar.rows) is, length-append s.grown.sofar.rows (text_rows (innermost s.grown.open_rows) s.grown.sofar.waits), few (innermost s.grown.open_rows) s.grown.sofar.waits)
+    omega (arith, room, ap (λ (x : State). length x.tags) is, closed_tags next s h, ap (λ (x : State). length x.grown.sofar.rows) is, length-append s.grown.sofar.rows (text_rows (innermost s.grown.open_rows) s.grown.sofar.waits), text_few (innermost s.grown.open_rows) s.grown.sofar.waits)
 
 pub shut_some : (next : Option Tok) (tags : List Tag) → is_shut tags next ≡ true → 0 < length tags
 shut_some next [] h = cc

@@ -2,6 +2,7 @@
 use Rattle.std.proofs.Common.{◌≡◌, ℕ, ◌≤◌, ◌<◌, List, [], ◌∷◌, ◌++◌, length, Bool, true, false, ◌&&◌, cond, sym, refl, ◌∙◌, ap, subst, arith, Option, Some, None, Ok, Err, append-nil, eqb, eqb-true, inl, inr, ◌⊎◌, ltb, lt-ltb}
 use Rattle.std.specs.Prelude.{Result, not, ◌||◌}
 use Rattle.std.proofs.lemmas.Slice.Eq.{bytes_eq-Decides}
+use Rattle.std.proofs.lemmas.Bool.{both_ways, eq-eqb, not-true, and_parts}
 use Rattle.text_base.specs.declared.reasons.PageReason.{PageReason}
 use Rattle.text_base.specs.declared.reasons.PageReason.TheVariants.{StrayEnd, TextOutside, SecondRoot, Deep}
 use Rattle.html_reader.specs.Tokens.{Tag, Leaf, Tok, starts, ends, holds, Mark, token, shut}
@@ -14,7 +15,7 @@ use Rattle.html_reader.specs.Reading.{Leads, Refuses, RefusesNext, Strays}
 use Rattle.html_reader.specs.inner.Reached.{state_at, IsSome, IsPart, Reached}
 use Rattle.html_reader.proofs.PlaceLemmas.{append, add, lone, put, put_marks, one_place}
 use Rattle.html_reader.proofs.RowLemmas.{leaf_grown, close_grown}
-use Rattle.html_reader.proofs.FitLemmas.{depth-append, width-append, white-append, both_true}
+use Rattle.html_reader.proofs.FitLemmas.{depth-append, width-append, white-append}
 use Rattle.html_reader.proofs.PageLemmas.{tokens_of-append}
 
 pub add_open : (p : Place) (f : Forest) → open_tags (add p f) ≡ open_tags p
@@ -76,14 +77,11 @@ open_few made (within before tag piece) h = omega (arith, h.2)
 
 can_start : (made : Bool) (p : Place) → (not made && (is_empty (open_tags p) && is_some made p)) ≡ false → CanStart made p
 can_start true p h = tt
-can_start false (outside piece) h = let none : (0 < width piece → ⊥) = (λ l. true_false (lt-ltb 0 (width piece) l) (or_false (not (is_white piece)) (ltb 0 (width piece)) h)) in omega (arith, none)
+can_start false (outside piece) h = let none : (0 < width piece → ⊥) = (λ l. both_ways _ (or_false (not (is_white piece)) (ltb 0 (width piece)) h) (lt-ltb 0 (width piece) l)) in omega (arith, none)
   where
     or_false : (a b : Bool) → ((a && false) || b) ≡ false → b ≡ false
     or_false true b e = e
     or_false false b e = e
-
-    true_false : {b : Bool} → b ≡ true → b ≡ false → ⊥
-    true_false h k = cc
 can_start false (within before tag piece) h = tt
 
 root_close : (made : Bool) (q : Forest) (tag : Tag) (piece : Forest) (inserted : Bool) → IsRootPiece made q → CanStart made (outside q) → IsRootPiece made (append q (lone tag piece inserted))
@@ -116,9 +114,6 @@ guard_err false e d x h = inr h
 pub same_ok : {A : Type 0} (x y : A) → ◌≡◌ {A = Result A PageReason} (Ok x) (Ok y) → x ≡ y
 same_ok x y e = cc
 
-eq_true : (a b : ℕ) → a ≡ b → eqb a b ≡ true
-eq_true a b e = grind arith
-
 goes_end : (made : Bool) (p : Place) (name : List ℕ) (s : State) → Fits made p → (named : Bool) → is_innermost (open_tags p) name ≡ named → cond named (Ok (closed (state_at made p))) (Err StrayEnd) ≡ Ok s → Goes made p (token (ends name)) s
 goes_end made (outside piece) name s fits true is h = cc
 goes_end made (within before tag piece) name s fits true is h =
@@ -135,16 +130,13 @@ goes made p (starts tag) s fits h =
     let free = guard_ok _ _ _ _ h in
     let room = guard_ok _ _ _ _ free.1 in
     let few = open_few made p fits in
-    let less : (length (open_tags p) ≡ most_open made → ⊥) = (λ e. true_false (eq_true _ _ e) room.0) in
+    let less : (length (open_tags p) ≡ most_open made → ⊥) = (λ e. both_ways _ room.0 (eq-eqb _ _ e)) in
     record {
       place = within p tag nothing;
       is = refl;
       fits = (fits, can_start made p free.0, omega (arith, few, less));
       state = same_ok _ _ room.1;
     }
-  where
-    true_false : {b : Bool} → b ≡ true → b ≡ false → ⊥
-    true_false h k = cc
 goes made p (ends name) s fits h = goes_end made p name s fits _ refl h
 goes made p (holds leaf) s fits h =
     let free = guard_ok _ _ _ _ h in
@@ -165,23 +157,16 @@ reason_is tags rooted next e d is h = subst (RefusesNext tags rooted next) is h
 
 strays : (tags : List Tag) (name : List ℕ) → is_innermost tags name ≡ false → Strays tags name
 strays [] name h = tt
-strays (tag ∷ before) name h = λ e. true_false ((bytes_eq-Decides tag.name name).1 e) h
-  where
-    true_false : {b : Bool} → b ≡ true → b ≡ false → ⊥
-    true_false h k = cc
+strays (tag ∷ before) name h = λ e. both_ways _ h ((bytes_eq-Decides tag.name name).1 e)
 
 stray_err : (b : Bool) (s : State) (r : PageReason) → cond b (Ok s) (Err StrayEnd) ≡ Err r → (b ≡ false) × (StrayEnd ≡ r)
 stray_err true s r h = cc
 stray_err false s r h = (refl, cc)
 
-not_true : (b : Bool) → not b ≡ true → b ≡ false
-not_true true h = cc
-not_true false h = refl
-
 pub refused : (s : State) (t : Tok) (r : PageReason) → step s t ≡ Err r → RefusesNext s.tags s.rooted (Some t) r
 refused s (starts tag) r h =
     elim (guard_err (not s.rooted.made && (is_empty s.tags && s.rooted.some)) SecondRoot r (cond (eqb (length s.tags) (most_open s.rooted.made)) (Err Deep) (Ok (opened s tag))) h) [
-      | inl second ↦ let parts = both_true _ _ second.0 in let two = both_true _ _ parts.1 in reason_is s.tags s.rooted (Some (starts tag)) SecondRoot r second.1 (not_true _ parts.0, no_tags _ two.0, two.1)
+      | inl second ↦ let parts = and_parts _ _ second.0 in let two = and_parts _ _ parts.1 in reason_is s.tags s.rooted (Some (starts tag)) SecondRoot r second.1 (not-true _ parts.0, no_tags _ two.0, two.1)
       | inr later ↦
           elim (guard_err (eqb (length s.tags) (most_open s.rooted.made)) Deep r (Ok (opened s tag)) later) [
             | inl deep ↦ reason_is s.tags s.rooted (Some (starts tag)) Deep r deep.1 (eqb-true _ _ deep.0)
@@ -191,7 +176,7 @@ refused s (starts tag) r h =
 refused s (ends name) r h = let parts = stray_err _ _ _ h in reason_is s.tags s.rooted (Some (ends name)) StrayEnd r parts.1 (strays s.tags name parts.0)
 refused s (holds leaf) r h =
     elim (guard_err (not s.rooted.made && (is_empty s.tags && not (is_white_leaf leaf))) TextOutside r (Ok (held s leaf)) h) [
-      | inl out ↦ let parts = both_true _ _ out.0 in let two = both_true _ _ parts.1 in reason_is s.tags s.rooted (Some (holds leaf)) TextOutside r out.1 (not_true _ parts.0, no_tags _ two.0, not_true _ two.1)
+      | inl out ↦ let parts = and_parts _ _ out.0 in let two = and_parts _ _ parts.1 in reason_is s.tags s.rooted (Some (holds leaf)) TextOutside r out.1 (not-true _ parts.0, no_tags _ two.0, not-true _ two.1)
       | inr taken ↦ cc
     ]
 

@@ -1,8 +1,11 @@
 -- What holds of all pages, and of all words.
-use Rattle.std.specs.Prelude.{◌≡◌, ℕ, List, Option, ◌⊎◌}
+use Rattle.std.specs.Prelude.{◌≡◌, ℕ, ◌≤◌, List, length, Option, ◌⊎◌}
+use Rattle.std.specs.Str.{IsUtf8}
+use Rattle.text_base.specs.Limits.{most_page}
 use Rattle.text_base.specs.declared.reasons.PageReason.{PageReason}
 use Rattle.text_base.specs.declared.reasons.PageReason.TheVariants.{TooLong, NotUtf8, Nul, BadTag, BadAttribute, BadComment, BadMarkup, StrayEnd, Unclosed, TextOutside, SecondRoot, NoRoot, Deep, Memory}
-use Rattle.doc_model.specs.Document.{Document}
+use Rattle.doc_model.specs.Document.{Document, IsDocument}
+use Rattle.doc_model.specs.Limits.{Countable}
 use Rattle.html_reader.specs.Tokens.{Tok}
 use Rattle.html_reader.specs.Places.{Place, place_marks}
 use Rattle.html_reader.specs.Words.{tokens_of, IsFull}
@@ -44,6 +47,12 @@ IsPageReason Memory = ⊥
 -- a page is refused for one of these reasons, none of which is want of memory
 abbrev pub PageReasons : Type 0
 PageReasons = (page : List ℕ) (reason : PageReason) (at : ℕ) → IsPageFault page reason at → IsPageReason reason
+
+-- What a page within the limit builds, if the page is UTF-8, is a document, and XPath's numbers count its rows and the
+-- characters of its attributes' values.
+abbrev pub PageDocuments : Type 0
+PageDocuments =
+    (page : List ℕ) (doc : Document) → IsUtf8 page → length page ≤ most_page → BuildsPage page doc → IsDocument doc × Countable doc
 
 -- tokens have one full word at most
 abbrev pub OneWord : Type 0

@@ -1,7 +1,7 @@
 //! What holds of all lists of tokens, and of all pages.
 ghost use Rattle.std.specs.Prelude.{ℕ, List};
 ghost use Rattle.html_reader.specs.Laws.{OneDocument, NeverBoth, OneFault};
-ghost use Rattle.html_reader.specs.PageLaws.{OnePageDocument, OnePageFault, NeverBothOfPage, PageReasons, PageAnswer, OneWord};
+ghost use Rattle.html_reader.specs.PageLaws.{OnePageDocument, OnePageFault, NeverBothOfPage, PageReasons, PageAnswer, PageDocuments, OneWord};
 
 /// Tokens build one document at most.
 #[tactic(auto, using(crate::proofs::LawLemmas::document_law))]
@@ -29,6 +29,12 @@ pub fn one_page_reading()
     ensures apart { NeverBothOfPage }
     ensures reasons { PageReasons }
     ensures either { (page : List ℕ) → PageAnswer page }
+{}
+
+/// What a page of `PAGE_LIMIT` bytes at most builds is a document, if the page is UTF-8. Its rows and the characters of each
+/// attribute's value are so few that XPath's numbers count them, so what a printed selector means holds of it.
+pub fn page_documents()
+    ensures { PageDocuments }
 {}
 
 /// Tokens have one full word at most.

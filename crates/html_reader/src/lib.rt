@@ -10,6 +10,7 @@
 #![tactic(auto)]
 
 mod contents;
+mod endings;
 mod keeping;
 mod laws;
 mod meaning;
@@ -19,5 +20,7 @@ mod reader;
 mod tables;
 mod token;
 
-pub use laws::{never_both, one_document, one_fault, one_full_word, one_page_reading};
+pub use laws::{
+    never_both, one_document, one_fault, one_full_word, one_page_reading, page_documents,
+};
 pub use page::read_html;

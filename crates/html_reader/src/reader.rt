@@ -1,5 +1,5 @@
 //! Reads tokens into a tree.
-ghost use Rattle.std.specs.Prelude.{◌≡◌, ◌+◌, ◌<◌, ◌≤◌, ◌^◌, ◌++◌, List, [], ◌∷◌, length, map, OnOk, IfOk, IfErr, ◌&&◌, ◌||◌, ◌==◌, not};
+ghost use Rattle.std.specs.Prelude.{◌≡◌, ◌+◌, ◌<◌, ◌≤◌, ◌^◌, ◌++◌, List, [], ◌∷◌, length, map, OnOk, IfOk, IfErr, ◌&&◌, ◌==◌, not};
 ghost use Rattle.std.specs.Prelude.{string_bytes, true};
 ghost use Rattle.std.specs.Vec.{vec_len};
 ghost use Rattle.html_reader.specs.Rows.{row_of_attribute, row_of_element};
@@ -12,14 +12,14 @@ ghost use Rattle.doc_model.specs.Growing.{fresh as root_alone};
 ghost use Rattle.html_reader.specs.inner.Kept.{AreKept, EndsInElement};
 ghost use Rattle.html_reader.specs.inner.Pieces.{owned_bytes};
 ghost use Rattle.doc_model.specs.Growing.{growing};
-ghost use Rattle.html_reader.specs.inner.States.{the_state, tags_onto, grown_of, attr_of, tag_of, tok_of, next_of, is_foreign_tag, is_single_last, most_rows, Steps, IsSound, HasKeptAttributes};
+ghost use Rattle.html_reader.specs.inner.States.{the_state, tags_onto, grown_of, attr_of, tag_of, tok_of, next_of, most_rows, Steps, IsSound, HasKeptAttributes};
 ghost use Rattle.text_base.specs.Text.{is_space5};
-ghost use Rattle.std.specs.List.{list_all, list_any};
-ghost use Rattle.html_reader.specs.Words.{is_shut, ends_at};
+ghost use Rattle.std.specs.List.{list_all};
+ghost use Rattle.html_reader.specs.Words.{is_shut};
 ghost use Rattle.html_reader.specs.Tokens.{starts, comment, text};
 
+use crate::endings::tag_ends;
 use crate::owned::Owned;
-use crate::tables::start_ends;
 use crate::token::{Attr, StartTag, Token};
 use doc_model::{Grow, Piece};
 use std::alloc::Global;
@@ -95,54 +95,6 @@ fn fault(reason: PageReason, at: usize) -> PageFault
     ensures at { result.at ≡ at }
 {
     PageFault { reason, at }
-}
-
-fn any_foreign(tags: &[StartTag<'_>]) -> bool
-    ensures { result ≡ list_any is_foreign_tag tags.now }
-{
-    for tag in tags {
-        if tag.foreign {
-            return true;
-        }
-    }
-    false
-}
-
-fn is_single_last(tags: &[StartTag<'_>], tag: &StartTag<'_>) -> bool
-    ensures { result ≡ is_single_last tags.now tag.now }
-{
-    tag.void || (tag.slash && any_foreign(tags))
-}
-
-fn token_ends(tag: &StartTag<'_>, next: &Token<'_>) -> bool
-    ensures { result ≡ ends_at (owned_bytes tag.now.name) (Some (tok_of next.now)) }
-{
-    match next {
-        Token::Start {
-            from: _,
-            tag: other,
-        } => tag.omits && start_ends(tag.name.as_str(), other.name.as_str()),
-        Token::End {
-            from: _,
-            name: other,
-        } => tag.omits && tag.name.as_str() != other.as_str(),
-        _ => false,
-    }
-}
-
-fn ends_at(tag: &StartTag<'_>, next: Option<&Token<'_>>) -> bool
-    ensures { result ≡ ends_at (owned_bytes tag.now.name) (next_of next.entry) }
-{
-    match next {
-        None => tag.omits,
-        Some(next) => token_ends(tag, next),
-    }
-}
-
-fn tag_ends(tags: &[StartTag<'_>], tag: &StartTag<'_>, next: Option<&Token<'_>>) -> bool
-    ensures { result ≡ (is_single_last tags.now tag.now || ends_at (owned_bytes tag.now.name) (next_of next.entry)) }
-{
-    is_single_last(tags, tag) || ends_at(tag, next)
 }
 
 impl<'p, G: Grow<'p> + Drop> Reader<'p, G> {

@@ -14,7 +14,8 @@ use Rattle.html_reader.specs.Rows.{tag_rows, row_of_text, row_of_comment, row_of
 use Rattle.html_reader.specs.Tables.{is_void}
 use Rattle.html_reader.specs.Contents.{takes_newline}
 use Rattle.html_reader.specs.Places.{outside, place_grown, all_rows}
-use Rattle.html_reader.proofs.InkLemmas.{ink, ink_text, ink_pair, ink_tag, end_ink, is_literal, newline as added, ink_content}
+use Rattle.html_reader.proofs.InkLemmas.{ink}
+use Rattle.html_reader.proofs.InkParts.{ink_text, ink_pair, ink_tag, end_ink, is_literal, newline as added, ink_content}
 use Rattle.html_reader.proofs.CleanLemmas.{whole_tree}
 use Rattle.html_reader.proofs.SegmentLemmas.{rows_at}
 use Rattle.html_reader.proofs.ContentOfRows.{heads, tree_parents, row_first, drop_past}

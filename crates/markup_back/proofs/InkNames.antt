@@ -4,11 +4,12 @@ use Rattle.std.specs.Prelude.{not, codes}
 use Rattle.std.specs.List.{list_all, list_any}
 use Rattle.std.specs.Str.{chars, bytes_eq, IsUtf8, str_to_ascii_lowercase, str_eq_ignore_ascii_case}
 use Rattle.std.proofs.lemmas.Str.{encodes-append}
+use Rattle.std.proofs.lemmas.Bool.{not-true}
 use Rattle.text_base.specs.Strings.{is_among}
 use Rattle.html_lexer.specs.Names.{is_escapable, literal_names, escapable_names}
 use Rattle.html_reader.specs.Tables.{is_void, void_names}
 use Rattle.html_reader.specs.Contents.{takes_newline, newline_names}
-use Rattle.html_reader.proofs.InkLemmas.{ink_text, is_literal, newline, ink_content}
+use Rattle.html_reader.proofs.InkParts.{ink_text, is_literal, newline, ink_content}
 use Rattle.html_reader.proofs.NameFacts.{each_passes}
 use Rattle.markup_out.specs.Escapes.{escaped_text, escaped_value}
 use Rattle.markup_out.specs.Names as out
@@ -41,10 +42,6 @@ esc_table : list_all (λ n. not (out.is_raw n)) esc_names ≡ true
 unfolding literal_names esc_names
 esc_table = refl
 
-not_true : (b : Bool) → not b ≡ true → b ≡ false
-not_true true h = cc
-not_true false h = refl
-
 literal_by : (a b : Bool) → (b ≡ true → a ≡ false) → ((a || b) && not b) ≡ a
 literal_by true true h = let no = h refl in cc
 literal_by true false h = refl
@@ -56,7 +53,7 @@ pub raw_is : (name : List ℕ) → IsUtf8 name → str_to_ascii_lowercase name �
 raw_is name u low =
     sym (raw_same name u) ∙ sym (lit_is name low)
     ∙ sym (literal_by (list_any (λ n. str_eq_ignore_ascii_case n name) literal_names) (is_escapable name)
-    (λ e. lit_is name low ∙ not_true (out.is_raw name) (each_passes (λ n. not (out.is_raw n)) esc_names name esc_table (sym (esc_is name low) ∙ e))))
+    (λ e. lit_is name low ∙ not-true (out.is_raw name) (each_passes (λ n. not (out.is_raw n)) esc_names name esc_table (sym (esc_is name low) ∙ e))))
 
 raw_table : list_all (λ n. not (takes_newline n)) literal_names ≡ true
 unfolding literal_names newline_names
@@ -64,7 +61,7 @@ raw_table = refl
 
 -- they take no newline
 pub literal_takes : (name : List ℕ) → IsUtf8 name → str_to_ascii_lowercase name ≡ name → is_literal name ≡ true → takes_newline name ≡ false
-literal_takes name u low h = not_true (takes_newline name) (each_passes (λ n. not (takes_newline n)) literal_names name raw_table (raw_same name u ∙ raw_is name u low ∙ h))
+literal_takes name u low h = not-true (takes_newline name) (each_passes (λ n. not (takes_newline n)) literal_names name raw_table (raw_same name u ∙ raw_is name u low ∙ h))
 
 pub none_raw : out.is_raw [] ≡ false
 unfolding literal_names

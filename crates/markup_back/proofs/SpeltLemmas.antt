@@ -1,11 +1,13 @@
 -- What can be written of a page is known well enough for its document.
 use Rattle.std.proofs.Common.{◌≡◌, ℕ, Bool, true, false, ◌&&◌, List, [], ◌∷◌, sym, refl, ap, subst}
 use Rattle.std.specs.Prelude.{not}
+use Rattle.std.proofs.lemmas.Bool.{both_ways}
 use Rattle.html_lexer.specs.Names.{is_raw, is_escapable}
 use Rattle.html_reader.specs.Tokens.{Attr, text, comment, doctype}
 use Rattle.html_reader.specs.Forest.{Forest, nothing, then_leaf, then_element}
 use Rattle.html_reader.specs.Tables.{is_void}
-use Rattle.html_reader.proofs.InkLemmas.{is_literal, IsInk, Inside, IsRawInside}
+use Rattle.html_reader.proofs.InkLemmas.{IsInk, Inside, IsRawInside}
+use Rattle.html_reader.proofs.InkParts.{is_literal}
 use Rattle.html_reader.proofs.InkLawLemmas.{AttrsUtf8, IsTextual}
 use Rattle.markup_back.proofs.CanonicalLemmas.{IsLone, AreNames, IsSpelt}
 
@@ -29,13 +31,10 @@ raw_spelt name (then_leaf (comment s) rest) h = absurd h
 raw_spelt name (then_leaf doctype rest) h = absurd h
 raw_spelt name (then_element tag inside inserted rest) h = absurd h
 
-both : {b : Bool} → b ≡ true → b ≡ false → ⊥
-both h k = cc
-
 inside_lone : (void raw : Bool) (name : List ℕ) (inside : Forest) (other : Type 0) → is_raw name ≡ raw → Inside void raw name inside other → is_literal name ≡ true → IsLone inside
 inside_lone true raw name inside other e h lit = subst IsLone (sym h.0) tt
 inside_lone false true name inside other e h lit = raw_lone name inside h.1
-inside_lone false false name inside other e h lit = absurd (both lit (ap (λ b. b && not (is_escapable name)) e))
+inside_lone false false name inside other e h lit = absurd (both_ways _ (ap (λ b. b && not (is_escapable name)) e) lit)
 
 inside_spelt : (void raw : Bool) (name : List ℕ) (inside : Forest) → Inside void raw name inside (IsInk inside) → (IsInk inside → IsSpelt inside) → IsSpelt inside
 inside_spelt true raw name inside h later = subst IsSpelt (sym h.0) tt
