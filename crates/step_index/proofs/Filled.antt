@@ -1,17 +1,17 @@
 -- Tables that are filled row by row.
-use Rattle.std.proofs.Common.{◌≡◌, refl, sym, ◌∙◌, ap, ℕ, ◌+◌, Bool, true, false, ◌&&◌, cond, List, ◌∷◌, [], ◌++◌, IsUtf8, arith, Option, Some, None, Result, Ok, Err}
+use Rattle.std.proofs.Common.{◌≡◌, subst, inl, inr, refl, sym, ◌∙◌, ap, ℕ, ◌+◌, Bool, true, false, ◌&&◌, cond, List, ◌∷◌, [], ◌++◌, IsUtf8, arith, Option, Some, None, Result, Ok, Err}
 use Rattle.std.specs.Prelude.{codes, OnOk, OnErr}
 use Rattle.std.specs.Option.{option_map, option_or}
 use Rattle.std.specs.List.{range_with_len, find}
 use Rattle.std.specs.Str.{chars, bytes_eq}
-use Rattle.std.proofs.lemmas.Bool.{and_parts}
+use Rattle.std.proofs.lemmas.Bool.{and_parts, cases_lt}
 use Rattle.std.proofs.lemmas.List.Folds.{find-append}
 use Rattle.doc_model.specs.declared.Kind.TheVariants.{Element, Attribute}
 use Rattle.doc_model.specs.Document.{Document, row, is_attribute, is_attribute_kind, is_element_kind}
 use Rattle.doc_model.proofs.Filters.{upto_more}
 use Rattle.doc_model.proofs.Runs.{range_split}
 use Rattle.step_index.specs.Named.{is_named, named_before}
-use Rattle.step_index.specs.inner.Tables.{gives_id}
+use Rattle.step_index.specs.inner.Tables.{gives_id, HasText, HaveTexts}
 use Rattle.step_index.proofs.Texts.{key_test, same_literal}
 
 pub on_ok : {A E P Q : Type 0} (r : Result A E) → (P → Q) → OnOk r P → OnOk r Q
@@ -32,6 +32,10 @@ named_row doc y text new old u e k h q v =
 
 pub named_more : (doc : Document) (name : List ℕ) (y : ℕ) → named_before doc name (y + 1) ≡ named_before doc name y ++ cond (is_named doc name y) (y ∷ []) []
 named_more doc name y = upto_more (is_named doc name) y (y + 1) (omega arith) (λ z l k. absurd (omega (arith, l, k)))
+
+-- one row more has its text
+pub texts_more : (doc : Document) (b : ℕ) → HaveTexts doc b → HasText doc b → HaveTexts doc (b + 1)
+texts_more doc b h last y l = elim (cases_lt y b) [ inl k ↦ h y k | inr k ↦ (let s : b ≡ y = omega (arith, k, l) in subst (HasText doc) s last) ]
 
 -- ---- attributes `id`
 

@@ -1,8 +1,9 @@
 //! Elements by their attribute `id`.
 ghost use Rattle.std.specs.Prelude.{◌≡◌, ◌<◌, ℕ, List, Option, ◌&&◌, codes, if◌then◌else◌, length, IfOk, OnOk};
-ghost use Rattle.std.specs.Option.{option_or, option_copied};
+ghost use Rattle.std.specs.Option.{option_or, option_map, option_copied};
 ghost use Rattle.std.specs.Str.{bytes_eq, chars, IsUtf8};
-ghost use Rattle.doc_model.specs.Document.{row, is_attribute};
+ghost use Rattle.std.specs.List.{find};
+ghost use Rattle.doc_model.specs.Document.{row, rows, is_attribute};
 ghost use Rattle.step_index.specs.inner.Tables.{gives_id};
 ghost use Rattle.step_index.specs.inner.Tables.{row_under, HasIds};
 
@@ -61,6 +62,26 @@ impl Ids {
     {
         self.rows.get(word).copied()
     }
+}
+
+/// The same without a table: the element of the first attribute `id` of this value.
+pub(crate) fn walk_id<T: Tree>(tree: &T, word: &str) -> Option<u32>
+    ensures { result ≡ option_map (λ z. (row (T.document tree.now) z).parent) (find (gives_id (T.document tree.now) (chars word.now)) (rows (T.document tree.now))) }
+{
+    for z in 0..tree.len() {
+        if is_id_of(tree, z, word) {
+            return Some(tree.parent(z));
+        }
+    }
+    None
+}
+
+/// Whether the row is an attribute `id` of this value.
+fn is_id_of<T: Tree>(tree: &T, z: u32, word: &str) -> bool
+    requires { z < length (T.document tree.now) }
+    ensures { result ≡ gives_id (T.document tree.now) (chars word.now) z }
+{
+    is_id(tree, z) && tree.text(z) == word
 }
 
 /// Whether the row is an attribute `id`.

@@ -1,5 +1,6 @@
 //! Axes that are looked up.
 ghost use Rattle.std.specs.Prelude.{◌≡◌, ◌<◌, ◌≤◌, ◌+◌, ◌-◌, ◌*◌, ◌^◌, ◌++◌, ℕ, [], ◌∷◌, true, if◌then◌else◌, length, nat_lt, slice_get, OnOk, OnErr, IfOk};
+ghost use Rattle.std.specs.Option.{ForSome};
 ghost use Rattle.std.specs.List.{find};
 ghost use Rattle.std.specs.Str.{chars};
 ghost use Rattle.doc_model.specs.Document.{row, rows, is_element, is_element_kind};
@@ -8,13 +9,13 @@ ghost use Rattle.doc_model.specs.Axes.{axis_list};
 ghost use Rattle.doc_model.specs.RowLists.{IsFront};
 ghost use Rattle.step_index.specs.Named.{is_named, named, GrowsByFront};
 ghost use Rattle.step_index.specs.Named as spec;
-ghost use Rattle.step_index.specs.inner.Alike.{tally, HasAlike};
+ghost use Rattle.step_index.specs.inner.Alike.{HasAlike};
 ghost use Rattle.step_index.specs.Siblings.{HasChildren, children_before};
 ghost use Rattle.step_index.specs.inner.Tables.{HasNames, HasIds, Before};
 
 use crate::alike::Alike;
 use crate::children::Children;
-use crate::ids::Ids;
+use crate::ids::{Ids, walk_id};
 use crate::names::Names;
 use crate::steps::Steps;
 use doc_model::{
@@ -25,18 +26,18 @@ use std::marker::Brand;
 use std::sync::ledger::{Blank, Ledger};
 use text_base::{NoMemory, Txt};
 
-/// A document with tables over it, so that elements are looked up by name and by attribute `id`.
+/// A document with tables over it, so that elements are looked up by name, by attribute `id` and among their siblings.
 #[derive(Drop)]
 pub struct Indexed<T: Tree> {
     tree: T,
     names: Names,
-    ids: Ids,
+    ids: Option<Ids>,
     children: Children,
     alike: Alike,
     ghost named: { HasNames (T.document tree) names (length (T.document tree)) },
-    ghost identified: { HasIds (T.document tree) ids (length (T.document tree)) },
+    ghost identified: { ForSome ids (λ t. HasIds (T.document tree) t (length (T.document tree))) },
     ghost counted: { HasChildren (T.document tree) children.ranks.items children.counts.items (length (T.document tree)) },
-    ghost grouped: { HasAlike (T.document tree) alike.ranks.items (tally alike.tallies) (length (T.document tree)) },
+    ghost grouped: { HasAlike (T.document tree) alike.before.items alike.after.items },
 }
 
 impl<T: Tree + Drop> Indexed<T> {
@@ -44,8 +45,23 @@ impl<T: Tree + Drop> Indexed<T> {
     pub fn new(alloc: Global, tree: T) -> Result<Indexed<T>, NoMemory>
         ensures { IfOk result (λ t. ⟦<Indexed<T> as Tree>⟧.document t ≡ T.document tree) }
     {
-        let names = Names::of(alloc, &tree)?;
         let ids = Ids::of(alloc, &tree)?;
+        Indexed::with_ids(alloc, tree, Some(ids))
+    }
+
+    /// The same without the table by attribute `id`: `first_id` looks at the rows one by one.
+    pub fn without_ids(alloc: Global, tree: T) -> Result<Indexed<T>, NoMemory>
+        ensures { IfOk result (λ t. ⟦<Indexed<T> as Tree>⟧.document t ≡ T.document tree) }
+    {
+        Indexed::with_ids(alloc, tree, None)
+    }
+
+    /// The tables, with this one by attribute `id`.
+    fn with_ids(alloc: Global, tree: T, ids: Option<Ids>) -> Result<Indexed<T>, NoMemory>
+        requires { ForSome ids (λ t. HasIds (T.document tree) t (length (T.document tree))) }
+        ensures { IfOk result (λ t. ⟦<Indexed<T> as Tree>⟧.document t ≡ T.document tree) }
+    {
+        let names = Names::of(alloc, &tree)?;
         let children = Children::of(alloc, &tree)?;
         let alike = Alike::of(alloc, &tree, &names)?;
         Ok(Indexed {
@@ -95,7 +111,10 @@ impl<T: Tree> Indexed<T> {
     pub fn first_id(&self, word: &str) -> Option<u32>
         ensures { result ≡ find (has_id (T.document self.now.tree) (chars word.now)) (rows (T.document self.now.tree)) }
     {
-        self.ids.under(word)
+        match &self.ids {
+            Some(ids) => ids.under(word),
+            None => walk_id(&self.tree, word),
+        }
     }
 
     /// The row at place `k`, from 0, of the elements of this name in document order. This is one step, and it takes
@@ -193,11 +212,7 @@ impl<T: Tree> Indexed<T> {
             children_before doc (is_named doc (row doc x).name) (row doc x).parent (length doc)
             ≡ children_before doc (is_named doc (row doc x).name) (row doc x).parent x + 1 + result }
     {
-        let parent = self.tree.parent(x);
-        let first = self.names.first(self.tree.name(x));
-        let all = self.alike.all(parent, first);
-        let before = self.alike.before(x);
-        all - before - 1
+        self.alike.after(x)
     }
 
     /// How many rows are on the axis of `x` that have the name.

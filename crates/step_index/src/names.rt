@@ -1,9 +1,9 @@
 //! Rows by element name.
-ghost use Rattle.std.specs.Prelude.{◌≡◌, ◌<◌, ◌++◌, ◌∷◌, ℕ, List, [], if◌then◌else◌, length, slice_get, IfOk, OnOk};
-ghost use Rattle.std.specs.Option.{unwrap_or};
+ghost use Rattle.std.specs.Prelude.{◌≡◌, ◌<◌, ◌++◌, ◌∷◌, ℕ, List, [], true, Some, if◌then◌else◌, length, slice_get, IfOk, OnOk};
 ghost use Rattle.std.specs.Str.{bytes_eq, chars, IsUtf8};
+ghost use Rattle.doc_model.specs.Document.{row, is_element};
 ghost use Rattle.step_index.specs.Named.{is_named, named};
-ghost use Rattle.step_index.specs.inner.Tables.{rows_under, HasNames};
+ghost use Rattle.step_index.specs.inner.Tables.{rows_under, lists_of, HasNames, HasText, HaveTexts};
 
 use doc_model::{Kind, Tree};
 use indexmap::IndexMap;
@@ -17,19 +17,25 @@ pub(crate) struct Names {
 }
 
 impl Names {
-    /// One more row under a name.
+    /// One more row under a name. The name is copied where it is new.
     fn push(&mut self, alloc: Global, name: &str, y: u32) -> Result<(), NoMemory>
         ensures { OnOk result ((q : List ℕ) → rows_under self.new q ≡ rows_under self.old q ++ (if bytes_eq q name.now then y ∷ [] else [])) }
     {
+        if let Some(list) = self.lists.get_mut(name) {
+            list.push(y)?;
+            return Ok(());
+        }
         let key = String::from_str(alloc, name)?;
-        self.lists.entry(key)?.or_default().push(y)?;
+        let list = vec![in alloc; y]?;
+        self.lists.insert(key, list)?;
         Ok(())
     }
 
     /// The row, under its name, if it is an element.
     fn push_row<T: Tree>(&mut self, alloc: Global, tree: &T, y: u32) -> Result<(), NoMemory>
         requires { y < length (T.document tree.now) }
-        ensures { OnOk result ((q : List ℕ) → IsUtf8 q → rows_under self.new q ≡ rows_under self.old q ++ (if is_named (T.document tree.now) (chars q) y then y ∷ [] else [])) }
+        ensures rows { OnOk result ((q : List ℕ) → IsUtf8 q → rows_under self.new q ≡ rows_under self.old q ++ (if is_named (T.document tree.now) (chars q) y then y ∷ [] else [])) }
+        ensures text { OnOk result (HasText (T.document tree.now) y) }
     {
         match tree.kind(y) {
             Kind::Element => self.push(alloc, tree.name(y), y),
@@ -39,7 +45,8 @@ impl Names {
 
     /// The table of a tree.
     pub(crate) fn of<T: Tree>(alloc: Global, tree: &T) -> Result<Names, NoMemory>
-        ensures { IfOk result (λ t. HasNames (T.document tree.now) t (length (T.document tree.now))) }
+        ensures rows { IfOk result (λ t. HasNames (T.document tree.now) t (length (T.document tree.now))) }
+        ensures texts { IfOk result (λ t. HaveTexts (T.document tree.now) (length (T.document tree.now))) }
     {
         let mut names = Names {
             lists: IndexMap::new(alloc),
@@ -60,10 +67,22 @@ impl Names {
         }
     }
 
-    /// The first row under a name, or 0.
-    pub(crate) fn first(&self, name: &str) -> u32
-        ensures { result ≡ unwrap_or (slice_get (rows_under self.now name.now) 0) 0 }
+    /// How many names there are.
+    pub(crate) fn len(&self) -> usize
+        ensures { result ≡ length (lists_of self.now) }
     {
-        self.under(name).first().copied().unwrap_or(0)
+        self.lists.len()
+    }
+
+    /// The rows under the name at a place, from 0.
+    pub(crate) fn list_at(&self, i: usize) -> &[u32]
+        requires { i < length (lists_of self.now) }
+        ensures list { slice_get (lists_of self.now) i ≡ Some result.now }
+        ensures named { (q : List ℕ) × (IsUtf8 q × (result.now ≡ rows_under self.now q)) }
+    {
+        match self.lists.get_index(i) {
+            Some((_, list)) => list.as_slice(),
+            None => &[],
+        }
     }
 }

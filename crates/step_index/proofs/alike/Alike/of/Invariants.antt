@@ -1,5 +1,11 @@
-use Rattle.step_index.specs.inner.Alike.{tally, HasAlike}
+use Rattle.std.specs.Prelude.{[]}
+use Rattle.step_index.specs.inner.Alike.{Counts, HasCounted}
 use Rattle.step_index.proofs.alike.Alike.of.Given as goal
 
-abbrev pub invariant-loop-y : goal.invariant-loop-y
-invariant-loop-y g l = HasAlike (g.T.Tree.document l.tree) l.alike.ranks.items (tally l.alike.tallies) l.y
+abbrev pub invariant-loop-i : goal.invariant-loop-i
+invariant-loop-i g l =
+    let doc = g.T.Tree.document l.tree in
+    record {
+      none : Counts doc [] l.counts.items;
+      counted : HasCounted doc l.names l.alike.before.items l.alike.after.items l.i;
+    }

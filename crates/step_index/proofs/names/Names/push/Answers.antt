@@ -4,3 +4,6 @@ use Rattle.step_index.proofs.names.Names.push.Goals as goal
 
 pub returns : goal.returns
 returns c = λ q. grind (arith, text_groups)
+
+pub returns-in-Some : goal.returns-in-Some
+returns-in-Some c = λ q. grind (arith, text_groups)
