@@ -7,14 +7,16 @@ use Rattle.std.proofs.lemmas.Bool.{eq-eqb, ne_eqb}
 use Rattle.std.proofs.lemmas.List.{append-nil}
 use Rattle.std.proofs.lemmas.List.Folds.{list_any-append}
 use Rattle.std.proofs.lemmas.Slice.Eq.{bytes_eq-Decides}
-use Rattle.doc_model.specs.Document.{Document, row, is_element}
+use Rattle.doc_model.specs.Attributes as spec
+use Rattle.doc_model.specs.Attributes.{is_attribute_of, has_id}
+use Rattle.doc_model.specs.Document.{Document, row, rows, is_element}
 use Rattle.doc_model.specs.RowLists.{Run}
 use Rattle.doc_model.proofs.Filters.{upto, upto_more}
 use Rattle.doc_model.proofs.Runs.{filter_run, run_le, range_split}
 use Rattle.xpath_parser.specs.Conversions.{is_any}
-use Rattle.xpath_parser.specs.Functions.{attributes_named, has_id, is_id, is_first}
+use Rattle.xpath_parser.specs.Functions.{attributes_named, is_id, is_first}
 use Rattle.std.specs.Cmp.{both_ways}
-use Rattle.xpath_functions.proofs.Truths.{same_any}
+use Rattle.xpath_functions.proofs.Truths.{any_kept, same_any}
 use Rattle.xpath_functions.specs.inner.Attributes.{is_value}
 
 -- ---- the first of those that pass
@@ -126,7 +128,9 @@ among h earlier s (w ∷ ws) is =
 -- ---- the id of an element
 
 pub has_value : (doc : Document) (q : List ℕ) (y : ℕ) (o : Option ℕ) → is_element doc y ≡ true → attributes_named doc (codes "id") y ≡ option_to_list o → has_id doc q y ≡ is_value doc o q
-has_value doc q y o e h = ap (λ b. b && list_any (λ z. bytes_eq (row doc z).text q) (attributes_named doc (codes "id") y)) e ∙ ap (list_any (λ z. bytes_eq (row doc z).text q)) h ∙ at o
+has_value doc q y o e h =
+    ap (λ b. b && spec.has_value doc y (codes "id") (λ value. bytes_eq value q)) e
+    ∙ sym (any_kept (is_attribute_of doc y (codes "id")) (λ z. bytes_eq (row doc z).text q) (rows doc)) ∙ ap (list_any (λ z. bytes_eq (row doc z).text q)) h ∙ at o
   where
     or_none : (b : Bool) → (b || false) ≡ b
     or_none true = refl
@@ -137,4 +141,4 @@ has_value doc q y o e h = ap (λ b. b && list_any (λ z. bytes_eq (row doc z).te
     at (Some z) = or_none (bytes_eq (row doc z).text q)
 
 pub no_value : (doc : Document) (q : List ℕ) (y : ℕ) → is_element doc y ≡ false → has_id doc q y ≡ false
-no_value doc q y e = ap (λ b. b && list_any (λ z. bytes_eq (row doc z).text q) (attributes_named doc (codes "id") y)) e
+no_value doc q y e = ap (λ b. b && spec.has_value doc y (codes "id") (λ value. bytes_eq value q)) e

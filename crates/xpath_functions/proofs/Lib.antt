@@ -7,7 +7,6 @@ mod Places
 mod Positions
 mod Pushes
 mod Spaces
-mod Tests
 mod TextSets
 mod Translations
 mod Truths

@@ -7,12 +7,14 @@ use Rattle.std.proofs.lemmas.Bool.{eqb-true, eq-eqb}
 use Rattle.std.proofs.lemmas.List.{length-append, length-drop, take-append-drop, take-append-le}
 use Rattle.std.proofs.lemmas.Slice.Eq.{starts_is}
 use Rattle.std.proofs.lemmas.Str.{chars-append, encodes-append, encodes-chars, cons_from_encodes, length-le-encodes, IsUtf8-append, IsUtf8-drop, IsUtf8-take, IsCharBoundary-at_seam}
-use Rattle.xpath_values.specs.Strings.{begins, one_more, place_of, before_place, after_place, str_before, str_after}
+use Rattle.text_base.specs.Strings.{starts_with}
+use Rattle.text_base.proofs.TextTests.{std_starts}
+use Rattle.xpath_values.specs.Strings.{one_more, place_of, before_place, after_place, str_before, str_after}
 
 -- ---- beginning with a text
 
-begins_parts : (s t : List ℕ) → (begins s t ≡ true → s ≡ t ++ drop (length t) s) × ((rest : List ℕ) → s ≡ t ++ rest → begins s t ≡ true)
-begins_parts s t = starts_is (λ a b. (eqb-true a b, eq-eqb a b)) s t (begins s t) refl
+begins_parts : (s t : List ℕ) → (starts_with s t ≡ true → s ≡ t ++ drop (length t) s) × ((rest : List ℕ) → s ≡ t ++ rest → starts_with s t ≡ true)
+begins_parts s t = starts_is (λ a b. (eqb-true a b, eq-eqb a b)) s t (starts_with s t) (sym (std_starts s t))
 
 -- the characters split where the bytes do
 pub split_chars : (v x rest : List ℕ) → encode_utf8_all x ≡ encode_utf8_all v ++ rest → (r : List ℕ) × ((x ≡ v ++ r) × (encode_utf8_all r ≡ rest))
@@ -24,10 +26,10 @@ split_chars (c ∷ v) x rest e =
 
 -- ---- the first place
 
-lacks_begins : (s t : List ℕ) → ((rest : List ℕ) → s ≢ t ++ rest) → begins s t ≡ false
-lacks_begins s t h = at (begins s t) refl
+lacks_begins : (s t : List ℕ) → ((rest : List ℕ) → s ≢ t ++ rest) → starts_with s t ≡ false
+lacks_begins s t h = at (starts_with s t) refl
   where
-    at : (b : Bool) → begins s t ≡ b → b ≡ false
+    at : (b : Bool) → starts_with s t ≡ b → b ≡ false
     at true e = absurd (h (drop (length t) s) ((begins_parts s t).0 e))
     at false e = refl
 
@@ -40,7 +42,7 @@ place_first [] t back [] e h = at t back e
 place_first [] t back (c ∷ s) e h = ap (λ b. cond b (Some 0) (one_more (place_of t s))) ((begins_parts (c ∷ s) t).1 back e)
 place_first (a ∷ front) t back [] e h = cc
 place_first (a ∷ front) t back (c ∷ s) e h =
-    let not_here : begins (c ∷ s) t ≡ false = lacks_begins (c ∷ s) t (h 0 (omega arith)) in
+    let not_here : starts_with (c ∷ s) t ≡ false = lacks_begins (c ∷ s) t (h 0 (omega arith)) in
     let rest : s ≡ front ++ (t ++ back) = cc in
     ap (λ b. cond b (Some 0) (one_more (place_of t s))) not_here ∙ ap one_more (place_first front t back s rest (λ k l. h (suc k) (omega arith)))
 

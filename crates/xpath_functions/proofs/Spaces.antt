@@ -1,8 +1,9 @@
 -- Reading from left to right gives the words with one space between two.
 use Rattle.std.proofs.Common.{◌≡◌, refl, sym, ◌∙◌, ap, ℕ, Bool, true, false, cond, List, [], ◌∷◌, ◌++◌, ◌⊎◌, inl, inr, append_assoc}
 use Rattle.std.specs.List.{join_with_byte}
-use Rattle.xpath_values.specs.Numbers.{is_space4}
-use Rattle.xpath_values.specs.Strings.{is_empty, words_after, words, normalized}
+use Rattle.text_base.specs.Strings.{is_empty}
+use Rattle.text_base.specs.Text.{is_space4}
+use Rattle.xpath_values.specs.Strings.{words_after, words, normalized}
 use Rattle.xpath_functions.specs.inner.Spacing.{Spaced, start, parted, after}
 
 -- a word behind a text

@@ -1,23 +1,12 @@
 -- The words of a text by either name.
-use Rattle.std.proofs.Common.{◌≡◌, refl, sym, ◌∙◌, ap, ℕ, Bool, true, false, ◌||◌, cond, eqb, List, [], ◌∷◌, ◌++◌, append_assoc}
+use Rattle.std.proofs.Common.{◌≡◌, refl, sym, ◌∙◌, ap, ℕ, Bool, true, false, cond, List, [], ◌∷◌, ◌++◌, append_assoc}
 use Rattle.std.specs.Prelude.{filter}
 use Rattle.std.specs.List.{slice_split, onto_first}
 use Rattle.std.proofs.lemmas.List.{append-nil}
 use Rattle.text_base.specs.Text.{is_space4}
 use Rattle.text_base.specs.Words as runs
-use Rattle.xpath_values.specs.Numbers as numbers
-use Rattle.xpath_values.specs.Strings.{is_empty, words_after, words}
-
-same_or : (a b c d : Bool) → (((a || b) || c) || d) ≡ (a || (b || (d || c)))
-same_or true b c d = refl
-same_or false true c d = refl
-same_or false false true true = refl
-same_or false false true false = refl
-same_or false false false true = refl
-same_or false false false false = refl
-
-same_space : (c : ℕ) → is_space4 c ≡ numbers.is_space4 c
-same_space c = same_or (eqb c 32) (eqb c 9) (eqb c 10) (eqb c 13)
+use Rattle.text_base.specs.Strings.{is_empty}
+use Rattle.xpath_values.specs.Strings.{words_after, words}
 
 -- characters in front of the first part
 abbrev front : List ℕ → List (List ℕ) → List (List ℕ)
@@ -46,17 +35,15 @@ nothing_front (c ∷ cs) = at (is_space4 c)
 
 cut : (w cs : List ℕ) → filter runs.is_some (front w (slice_split is_space4 cs)) ≡ words_after w cs
 cut w [] = ap (λ v. filter runs.is_some (v ∷ [])) (append-nil w) ∙ some_full w []
-cut w (c ∷ cs) = at (is_space4 c) (numbers.is_space4 c) (same_space c) (cut [] cs) (cut (w ++ c ∷ []) cs)
+cut w (c ∷ cs) = at (is_space4 c) (cut [] cs) (cut (w ++ c ∷ []) cs)
   where
-    at : (b d : Bool) → b ≡ d → filter runs.is_some (front [] (slice_split is_space4 cs)) ≡ words_after [] cs → filter runs.is_some (front (w ++ c ∷ []) (slice_split is_space4 cs)) ≡ words_after (w ++ c ∷ []) cs
+    at : (b : Bool) → filter runs.is_some (front [] (slice_split is_space4 cs)) ≡ words_after [] cs → filter runs.is_some (front (w ++ c ∷ []) (slice_split is_space4 cs)) ≡ words_after (w ++ c ∷ []) cs
         → filter runs.is_some (front w (cond b ([] ∷ slice_split is_space4 cs) (onto_first c (slice_split is_space4 cs))))
-        ≡ cond d (cond (is_empty w) (words_after [] cs) (w ∷ words_after [] cs)) (words_after (w ++ c ∷ []) cs)
-    at true true e h k =
+        ≡ cond b (cond (is_empty w) (words_after [] cs) (w ∷ words_after [] cs)) (words_after (w ++ c ∷ []) cs)
+    at true h k =
         ap (λ v. filter runs.is_some (v ∷ slice_split is_space4 cs)) (append-nil w) ∙ some_full w (filter runs.is_some (slice_split is_space4 cs))
         ∙ ap (λ r. cond (is_empty w) r (w ∷ r)) (ap (filter runs.is_some) (sym (nothing_front cs)) ∙ h)
-    at false false e h k = ap (filter runs.is_some) (front_more w c (slice_split is_space4 cs)) ∙ k
-    at true false e h k = cc
-    at false true e h k = cc
+    at false h k = ap (filter runs.is_some) (front_more w c (slice_split is_space4 cs)) ∙ k
 
 pub same_words : (cs : List ℕ) → runs.words cs ≡ words cs
 same_words cs = ap (filter runs.is_some) (sym (nothing_front cs)) ∙ cut [] cs

@@ -2,6 +2,7 @@
 ghost use Rattle.std.specs.Prelude.{◌≡◌, ◌<◌, ◌&&◌, not, ℕ, Bool, List, length, flat_map, filter, IfOk, IfSome};
 ghost use Rattle.std.specs.List.{list_any};
 ghost use Rattle.std.specs.Str.{bytes_eq, chars};
+ghost use Rattle.doc_model.specs.Attributes.{has_id};
 ghost use Rattle.doc_model.specs.Document.{rows};
 ghost use Rattle.doc_model.specs.StringValue as values;
 ghost use Rattle.doc_model.specs.RowLists.{AllBelow};
@@ -68,7 +69,7 @@ fn set_of<'a>(alloc: Global, words: &'a [Txt]) -> Result<BTreeSet<&'a str>, NoMe
 /// The attribute `id` of a row, if it is an element.
 fn id_of<T: Tree>(tree: &T, y: u32) -> Option<u32>
     requires { y < length (T.document tree.now) }
-    ensures id { (q : List ℕ) → functions.has_id (T.document tree.now) q y ≡ spec.is_value (T.document tree.now) result q }
+    ensures id { (q : List ℕ) → has_id (T.document tree.now) q y ≡ spec.is_value (T.document tree.now) result q }
     ensures row { IfSome result (λ z. z < length (T.document tree.now)) }
 {
     match tree.kind(y) {
@@ -80,8 +81,8 @@ fn id_of<T: Tree>(tree: &T, y: u32) -> Option<u32>
 /// Whether the row is the first element with one of the ids that are left, which is taken out.
 fn is_found<T: Tree>(tree: &T, left: &mut BTreeSet<&str>, y: u32) -> bool
     requires { y < length (T.document tree.now) }
-    ensures found { (ws : List (List ℕ)) (earlier : List ℕ → Bool) → AreLeft left.old ws earlier → result ≡ list_any (λ w. functions.has_id (T.document tree.now) w y && not (earlier w)) ws }
-    ensures left { (q : List ℕ) → has_text left.new q ≡ (not (functions.has_id (T.document tree.now) q y) && has_text left.old q) }
+    ensures found { (ws : List (List ℕ)) (earlier : List ℕ → Bool) → AreLeft left.old ws earlier → result ≡ list_any (λ w. has_id (T.document tree.now) w y && not (earlier w)) ws }
+    ensures left { (q : List ℕ) → has_text left.new q ≡ (not (has_id (T.document tree.now) q y) && has_text left.old q) }
 {
     match id_of(tree, y) {
         Some(z) => take_out(left, tree.text(z)),

@@ -3,6 +3,7 @@ ghost use Rattle.std.specs.Prelude.{◌≡◌, ◌<◌, ◌∷◌, [], length, p
 ghost use Rattle.test_registry.specs.Kinds.{HasKind};
 ghost use Rattle.test_registry.specs.Meets.{meets};
 ghost use Rattle.xpath_values.specs.declared.value.Value.TheVariants.{Nodes};
+ghost use Rattle.text_base.specs.Strings as texts;
 ghost use Rattle.xpath_values.specs.Numbers as numbers;
 ghost use Rattle.xpath_values.specs.Strings as strings;
 ghost use Rattle.xpath_parser.specs.Conversions as spec;
@@ -43,10 +44,9 @@ pub fn concat<T: Tree>(alloc: Global, tree: &T, args: &Seq<Value>) -> Result<Txt
 }
 
 /// `starts-with`
-#[tactic(auto, using(crate::proofs::Tests::begins_is))]
 pub fn starts_with<T: Tree>(alloc: Global, tree: &T, args: &Seq<Value>) -> Result<bool, NoMemory>
     requires { AreWithin (T.document tree.now) args.now }
-    ensures { IfOk result (λ r. r ≡ strings.begins (spec.text_of (T.document tree.now) (arg 0 args.now (Nodes []))) (spec.text_of (T.document tree.now) (arg 1 args.now (Nodes [])))) }
+    ensures { IfOk result (λ r. r ≡ texts.starts_with (spec.text_of (T.document tree.now) (arg 0 args.now (Nodes []))) (spec.text_of (T.document tree.now) (arg 1 args.now (Nodes [])))) }
 {
     let text = text_at(alloc, tree, args, 0)?;
     let start = text_at(alloc, tree, args, 1)?;
@@ -71,10 +71,9 @@ pub fn stored<T: Tree, Q: Asks>(
 }
 
 /// `contains`
-#[tactic(auto, using(crate::proofs::Tests::contains_is))]
 pub fn contains<T: Tree>(alloc: Global, tree: &T, args: &Seq<Value>) -> Result<bool, NoMemory>
     requires { AreWithin (T.document tree.now) args.now }
-    ensures { IfOk result (λ r. r ≡ strings.str_contains (spec.text_of (T.document tree.now) (arg 0 args.now (Nodes []))) (spec.text_of (T.document tree.now) (arg 1 args.now (Nodes [])))) }
+    ensures { IfOk result (λ r. r ≡ texts.contains (spec.text_of (T.document tree.now) (arg 0 args.now (Nodes []))) (spec.text_of (T.document tree.now) (arg 1 args.now (Nodes [])))) }
 {
     let text = text_at(alloc, tree, args, 0)?;
     let part = text_at(alloc, tree, args, 1)?;

@@ -2,8 +2,8 @@
 -- serves its contracts; what `normalize-space` gives is said in xpath_values, specs/Strings.
 use Rattle.std.specs.Prelude.{ℕ, Bool, true, false, ◌&&◌, not, if◌then◌else◌, List, [], ◌∷◌, ◌++◌}
 use Rattle.std.specs.List.{fold}
-use Rattle.xpath_values.specs.Numbers.{is_space4}
-use Rattle.xpath_values.specs.Strings.{is_empty}
+use Rattle.text_base.specs.Strings.{is_empty}
+use Rattle.text_base.specs.Text.{is_space4}
 
 -- the text so far, and whether white space was read behind it
 pub record Spaced : Type 0 where

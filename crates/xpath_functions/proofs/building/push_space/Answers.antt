@@ -1,7 +1,7 @@
 use Rattle.std.proofs.Common.{◌≡◌, ◌++◌, [], ◌∷◌, true, ◌&&◌, not, cond, string_bytes, sym, ◌∙◌, ap}
 use Rattle.std.specs.Str.{chars}
 use Rattle.std.proofs.lemmas.Str.{IsUtf8-string_bytes}
-use Rattle.xpath_values.specs.Strings.{is_empty}
+use Rattle.text_base.specs.Strings.{is_empty}
 use Rattle.xpath_functions.proofs.Pushes.{pushed_char}
 use Rattle.xpath_functions.proofs.building.push_space.Goals as goal
 

@@ -1,6 +1,6 @@
 use Rattle.std.proofs.Common.{sym, ◌∙◌, ap}
 use Rattle.doc_model.specs.Document.{row}
-use Rattle.xpath_parser.specs.Functions.{has_id}
+use Rattle.doc_model.specs.Attributes.{has_id}
 use Rattle.xpath_functions.specs.inner.Sets.{has_text}
 use Rattle.xpath_functions.proofs.FirstIds.{among, none_id}
 use Rattle.xpath_functions.proofs.ids.is_found.Goals as goal

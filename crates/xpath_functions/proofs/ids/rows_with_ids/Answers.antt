@@ -1,6 +1,7 @@
 use Rattle.std.proofs.Common.{◌≡◌, sym, ◌∙◌, ap, arith}
 use Rattle.std.specs.List.{list_any, range_with_len}
-use Rattle.xpath_parser.specs.Functions.{has_id, is_id}
+use Rattle.doc_model.specs.Attributes.{has_id}
+use Rattle.xpath_parser.specs.Functions.{is_id}
 use Rattle.xpath_functions.proofs.FirstIds.{first_ids, fewer, kept, passed}
 use Rattle.xpath_functions.proofs.ids.rows_with_ids.Goals as goal
 use Rattle.xpath_functions.proofs.ids.rows_with_ids.Goals.{then-is_found+in_ok-push, else-is_found}

@@ -1,6 +1,7 @@
 use Rattle.std.proofs.Common.{◌≡◌, filter}
 use Rattle.std.specs.List.{list_any, range_with_len}
-use Rattle.xpath_parser.specs.Functions.{has_id, is_id}
+use Rattle.doc_model.specs.Attributes.{has_id}
+use Rattle.xpath_parser.specs.Functions.{is_id}
 use Rattle.xpath_functions.specs.inner.Sets.{AreLeft}
 use Rattle.xpath_functions.proofs.ids.rows_with_ids.Given as goal
 

@@ -2,10 +2,9 @@ use Rattle.std.proofs.Common.{◌≡◌, ◌++◌, ◌||◌, true, false, map, c
 use Rattle.std.specs.Char.{to_ascii_lowercase}
 use Rattle.std.specs.Str.{chars, bytes_eq}
 use Rattle.std.proofs.lemmas.Str.{IsUtf8-string_bytes}
-use Rattle.xpath_values.specs.Strings.{begins}
+use Rattle.text_base.specs.Strings.{starts_with}
 use Rattle.xpath_functions.proofs.Lists.{dash_chars}
 use Rattle.xpath_functions.proofs.Pushes.{encoded, pushed}
-use Rattle.xpath_functions.proofs.Tests.{begins_is}
 use Rattle.xpath_functions.proofs.languages.is_language.Goals as goal
 
 pub returns-then-compare_atoms : goal.returns-then-compare_atoms
@@ -17,7 +16,7 @@ returns-then-compare_atoms c = λ doc.
     ap chars c.as_str-2.ensures.value ∙ encoded (string_bytes c.in_ok-start.start) wanted (IsUtf8-string_bytes c.in_ok-start.start) c.in_ok-start.ensures in
     let same : bytes_eq low wanted ≡ true =
     ap (λ v. bytes_eq v wanted) (sym is_low) ∙ ap (bytes_eq (chars c.as_str.result.now)) (sym is_wanted) ∙ sym c.compare_atoms.ensures ∙ c.if-compare_atoms.true in
-    sym (ap (λ b. b || begins low (wanted ++ codes "-")) same)
+    sym (ap (λ b. b || starts_with low (wanted ++ codes "-")) same)
 
 pub returns : goal.returns
 returns c = λ doc.
@@ -32,5 +31,5 @@ returns c = λ doc.
     ap chars c.as_str-4.ensures.value
     ∙ pushed (string_bytes c.in_ok-start.start) (string_bytes c.push_str.new.self) (codes "-") (IsUtf8-string_bytes c.in_ok-start.start) c.in_ok-push_str.ensures.bytes
     ∙ ap (λ v. v ++ chars (codes "-")) start_chars ∙ ap (λ v. wanted ++ v) dash_chars in
-    c.begins.ensures ∙ begins_is (chars c.as_str-3.result.now) (chars c.as_str-4.result.now) ∙ ap (λ v. begins v (chars c.as_str-4.result.now)) (ap chars c.as_str-3.ensures.value ∙ low_chars) ∙ ap (begins low) behind
-    ∙ sym (ap (λ b. b || begins low (wanted ++ codes "-")) other)
+    c.begins.ensures ∙ ap (λ v. starts_with v (chars c.as_str-4.result.now)) (ap chars c.as_str-3.ensures.value ∙ low_chars) ∙ ap (starts_with low) behind
+    ∙ sym (ap (λ b. b || starts_with low (wanted ++ codes "-")) other)
