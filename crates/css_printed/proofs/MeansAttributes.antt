@@ -1,5 +1,5 @@
 -- The predicates on attributes, of which an element has at most one of a name.
-use Rattle.std.proofs.Common.{◌≡◌, refl, ℕ, ◌<◌, Bool, true, false, ◌&&◌, ◌||◌, not, cond, eqb, List, [], ◌∷◌, ◌++◌, length, ap, sym, ◌∙◌, subst, filter, arith, inl, inr, ltb, Option, Some, None}
+use Rattle.std.proofs.Common.{◌≡◌, refl, ℕ, ◌<◌, Bool, true, false, ◌&&◌, ◌||◌, not, cond, eqb, List, [], ◌∷◌, ◌++◌, length, ap, sym, ◌∙◌, subst, filter, arith, inl, inr, ltb}
 use Rattle.std.specs.Prelude.{codes}
 use Rattle.std.specs.List.{list_any}
 use Rattle.std.specs.Str.{bytes_eq}
@@ -15,7 +15,7 @@ use Rattle.css_meaning.proofs.ListTests as lists
 use Rattle.text_base.proofs.PartLemmas.{same_means}
 use Rattle.xpath_values.specs.declared.value.Value.TheVariants.{Nodes, Num, Str, Bool as Truth}
 use Rattle.xpath_values.specs.declared.value.Compare.TheVariants as compare
-use Rattle.xpath_values.specs.Strings.{substring_from, normalized, begins, place_of, is_found, one_more, str_contains}
+use Rattle.xpath_values.specs.Strings.{substring_from, normalized}
 use Rattle.xpath_parser.specs.declared.expression.Expr.{Expr}
 use Rattle.xpath_parser.specs.declared.expression.Expr.TheVariants as e
 use Rattle.xpath_parser.specs.declared.expression.Func.TheVariants as f
@@ -23,7 +23,6 @@ use Rattle.xpath_parser.specs.declared.expression.Infix.TheVariants as infix_of
 use Rattle.xpath_parser.specs.Conversions.{is_any, text_of_rows}
 use Rattle.xpath_parser.specs.Denote.{has}
 use Rattle.css_printed.specs.inner.Predicates.{literal, equals, both, number, dash_predicate, prefix_predicate, substring_predicate, suffix_predicate, word_predicate, joins}
-use Rattle.css_printed.proofs.Swaps.{flip}
 use Rattle.css_printed.proofs.PathsKept.{Is}
 use Rattle.css_printed.proofs.MeansValues.{Value_at, is_truth, is_nodes, is_never, any_kept, at_two, at_both, at_either, at_call_one, at_call_two, at_call_three, at_number}
 use Rattle.css_printed.proofs.MeansNames.{at_text}
@@ -34,27 +33,6 @@ use Rattle.text_base.specs.Text.{is_space5}
 use Rattle.std.specs.Prelude.{pos, ◌^◌, ◌-◌}
 use Rattle.xpath_values.specs.Numbers.{whole, num_sub}
 use Rattle.text_base.specs.Strings.{ends_with, is_among, runs}
-
--- ---- texts
-
--- the same tests by their two names
-pub begins_starts : (s t : List ℕ) → begins s t ≡ starts_with s t
-begins_starts s [] = refl
-begins_starts [] (b ∷ t) = refl
-begins_starts (a ∷ s) (b ∷ t) = ap (λ v. v && begins s t) (flip b a) ∙ ap (λ r. eqb a b && r) (begins_starts s t)
-
-found_more : (o : Option ℕ) → is_found (one_more o) ≡ is_found o
-found_more None = refl
-found_more (Some i) = refl
-
-pub contains_same : (s t : List ℕ) → str_contains s t ≡ contains s t
-contains_same [] [] = refl
-contains_same [] (b ∷ t) = refl
-contains_same (a ∷ s) t = at (begins (a ∷ s) t) refl (contains_same s t)
-  where
-    at : (b : Bool) → begins (a ∷ s) t ≡ b → str_contains s t ≡ contains s t → is_found (cond b (Some 0) (one_more (place_of t s))) ≡ (starts_with (a ∷ s) t || contains s t)
-    at true h more = ap (λ v. v || contains s t) (sym h ∙ begins_starts (a ∷ s) t)
-    at false h more = found_more (place_of t s) ∙ more ∙ ap (λ v. v || contains s t) (sym h ∙ begins_starts (a ∷ s) t)
 
 module _ (doc : Document) where
   -- the attributes of x that have the name
@@ -152,12 +130,10 @@ module _ (doc : Document) where
     at_starts : (v : List ℕ) (x : ℕ) → Value_at doc (e.Call f.StartsWith (a ∷ literal v ∷ [])) x (Truth (starts_with (text_of_rows doc (found x n)) v))
     at_starts v x at size =
         at_call_two doc f.StartsWith a (literal v) x (Nodes (found x n)) (Str v) (at_a x) (at_text doc v x) at size
-        ∙ ap Truth (begins_starts (text_of_rows doc (found x n)) v)
 
     at_contains : (v : List ℕ) (x : ℕ) → Value_at doc (e.Call f.Contains (a ∷ literal v ∷ [])) x (Truth (contains (text_of_rows doc (found x n)) v))
     at_contains v x at size =
         at_call_two doc f.Contains a (literal v) x (Nodes (found x n)) (Str v) (at_a x) (at_text doc v x) at size
-        ∙ ap Truth (contains_same (text_of_rows doc (found x n)) v)
 
     -- the attribute is there, and more
     pub with_attribute : IsDocument doc → (p : Expr) (test : List ℕ → Bool) (x : ℕ) → Value_at doc p x (Truth (test (text_of_rows doc (found x n)))) → Is doc (both a p) x (has_value doc x n test)
@@ -230,7 +206,6 @@ module _ (doc : Document) where
         (at_call_three doc f.Concat (literal (codes " ")) (e.Call f.NormalizeSpace (a ∷ [])) (literal (codes " ")) x (Str (codes " ")) (Str (normalized (text_of_rows doc (found x n)))) (Str (codes " "))
         (at_text doc (codes " ") x) (at_call_one doc f.NormalizeSpace a x (Nodes (found x n)) (at_a x)) (at_text doc (codes " ") x))
         (at_text doc (codes " " ++ (v ++ codes " ")) x) at size
-        ∙ ap Truth (contains_same (32 ∷ (normalized (text_of_rows doc (found x n)) ++ 32 ∷ [])) (32 ∷ (v ++ 32 ∷ [])))
 
     word_at : (some clear : Bool) (v : List ℕ) → is_empty v ≡ some → list_any is_space5 v ≡ clear → IsDocument doc → NoFormFeed doc → (x : ℕ)
         → Is doc (cond (some || clear) (number 0) (both a (e.Call f.Contains (bounded ∷ literal (codes " " ++ (v ++ codes " ")) ∷ [])))) x

@@ -32,7 +32,7 @@ use Rattle.css_printed.proofs.PathsKept.{Is, Keep, keep_one}
 use Rattle.css_printed.proofs.MeansLower.{translated_lower}
 use Rattle.css_printed.proofs.MeansValues.{Value_at, is_truth, is_nodes, any_kept, at_call_one, at_call_two, at_call_three}
 use Rattle.css_printed.proofs.MeansNames.{at_text, at_plain_attribute}
-use Rattle.css_printed.proofs.MeansAttributes.{IsOf, is_of, found, value_is, found_is, attribute_value, begins_starts}
+use Rattle.css_printed.proofs.MeansAttributes.{IsOf, is_of, found, value_is, found_is, attribute_value}
 use Rattle.css_printed.proofs.MeansParts.{self_any}
 use Rattle.css_printed.proofs.Paths.{found_in}
 use Rattle.doc_model.specs.Axes.{on_axis}
@@ -49,7 +49,7 @@ last_in (x ∷ xs) y h = at (is_any xs) h (last_in xs y)
 
 -- one test by its two names
 language_same : (doc : Document) (x t : List ℕ) → is_language doc x t ≡ lang_test t x
-language_same doc x t = ap (λ b. bytes_eq (map to_ascii_lowercase t) (map to_ascii_lowercase x) || b) (begins_starts (map to_ascii_lowercase t) (map to_ascii_lowercase x ++ codes "-"))
+language_same doc x t = refl
 
 module _ (doc : Document) where
   members_any : (q : ℕ → Bool) (xs : List ℕ) → ((x : ℕ) → has x xs ≡ true → has x (rows doc) ≡ true) → list_any (λ z. has z xs && q z) (rows doc) ≡ list_any q xs
@@ -172,8 +172,7 @@ module _ (doc : Document) where
       (at_plain_attribute doc html_name y) (at_text doc (codes "ABCDEFGHIJKLMNOPQRSTUVWXYZ") y) (at_text doc (codes "abcdefghijklmnopqrstuvwxyz") y))
       (at_text doc (codes "-") y))
       (at_text doc (map to_ascii_lowercase v ++ codes "-") y) at size
-      ∙ ap Truth (begins_starts (translated (text_of_rows doc (found doc y html_name)) (codes "ABCDEFGHIJKLMNOPQRSTUVWXYZ") (codes "abcdefghijklmnopqrstuvwxyz") ++ codes "-") (map to_ascii_lowercase v ++ codes "-")
-      ∙ ap (λ s. starts_with (s ++ codes "-") (map to_ascii_lowercase v ++ codes "-")) (translated_lower (text_of_rows doc (found doc y html_name)))
+      ∙ ap Truth (ap (λ s. starts_with (s ++ codes "-") (map to_ascii_lowercase v ++ codes "-")) (translated_lower (text_of_rows doc (found doc y html_name)))
       ∙ dashes (map to_ascii_lowercase (text_of_rows doc (found doc y html_name))) (map to_ascii_lowercase v))
 
   -- where the attribute is there, its value decides

@@ -17,7 +17,6 @@ use Rattle.css_meaning.specs.Attributes.{is_attribute_of, has_value, has_attribu
 use Rattle.css_meaning.specs.Simples.{is_empty_element, is_link, is_checked, is_control, is_enabled, is_disabled, is_one_of, in_html}
 use Rattle.css_meaning.proofs.ListTests as lists
 use Rattle.css_meaning.proofs.Finding.{in_rows, row_within}
-use Rattle.xpath_values.specs.Strings.{str_contains}
 use Rattle.xpath_values.specs.declared.value.Value.TheVariants.{Nodes, Str, Bool as Truth}
 use Rattle.xpath_parser.specs.declared.expression.Expr.{Expr}
 use Rattle.xpath_parser.specs.declared.expression.Expr.TheVariants as e
@@ -30,7 +29,7 @@ use Rattle.css_printed.proofs.PathsKept.{Is}
 use Rattle.css_printed.proofs.MeansValues as values
 use Rattle.css_printed.proofs.MeansValues.{Value_at, is_truth, is_never, any_kept, at_not, at_both, at_either, at_or, at_and, at_call_two, at_bare_step, Truths_at}
 use Rattle.css_printed.proofs.MeansNames.{at_text, at_plain_attribute}
-use Rattle.css_printed.proofs.MeansAttributes.{found, at_equals, contains_same}
+use Rattle.css_printed.proofs.MeansAttributes.{found, at_equals}
 use Rattle.css_printed.proofs.MeansParts.{element_row, self_any}
 
 same_nor : (a b : Bool) → (not a && not b) ≡ not (a || b)
@@ -125,10 +124,9 @@ module _ (doc : Document) where
   contains_is v x among at size =
       is_truth doc (e.Call f.Contains (path axis.OwnSelf node.Node [] ∷ literal v ∷ [])) x _
       (at_call_two doc f.Contains (path axis.OwnSelf node.Node []) (literal v) x (Nodes (filter (λ y. eqb y x && true) (rows doc))) (Str v) (at_bare_step doc axis.OwnSelf node.Node x) (at_text doc v x)) at size
-      ∙ ap (λ t. str_contains t v) (own_first x (filter (λ y. eqb y x && true) (rows doc))
+      ∙ ap (λ t. contains t v) (own_first x (filter (λ y. eqb y x && true) (rows doc))
       (λ y i. eqb-true y x (and_parts (eqb y x) _ (and_parts _ _ (sym (lists.in_filter (λ z. eqb z x && true) (rows doc) y) ∙ i)).0).0)
       (lists.in_filter (λ z. eqb z x && true) (rows doc) x ∙ and_from _ _ (and_from _ _ (eq-eqb x x refl) refl) among))
-      ∙ contains_same (string_value doc x) v
 
   -- ---- elements of some names
 

@@ -4,11 +4,10 @@ use Rattle.std.specs.List.{list_any, join_with_byte}
 use Rattle.std.specs.Str.{bytes_eq}
 use Rattle.std.proofs.lemmas.Bool.{or_parts}
 use Rattle.std.proofs.lemmas.List.{append-nil}
-use Rattle.text_base.specs.Text.{is_space5}
+use Rattle.text_base.specs.Text.{is_space4, is_space5}
 use Rattle.text_base.specs.Strings.{is_empty, starts_with, contains, is_among, put, pieces, not_empty, runs}
 use Rattle.css_meaning.specs.Limits.{is_form_feed}
-use Rattle.xpath_values.specs.Numbers.{is_space4}
-use Rattle.xpath_values.specs.Strings.{words_after, words, normalized, is_empty as no_text}
+use Rattle.xpath_values.specs.Strings.{words_after, words, normalized}
 use Rattle.css_printed.proofs.Swaps.{flip}
 
 -- ---- the words are the runs
@@ -41,34 +40,25 @@ pieces_whole p (c ∷ x) = at (p c)
     at true = refl
     at false = put_whole (pieces p x)
 
-both_empty : (w : List ℕ) → no_text w ≡ is_empty w
-both_empty [] = refl
-both_empty (c ∷ w) = refl
-
 words_runs : (w x : List ℕ) → words_after w x ≡ not_empty (front w (pieces is_space4 x))
 words_runs w [] =
-    ap (λ b. cond b [] (w ∷ [])) (both_empty w) ∙ ap (λ u. cond (is_empty u) [] (u ∷ [])) (sym (append-nil w))
+    ap (λ u. cond (is_empty u) [] (u ∷ [])) (sym (append-nil w))
 words_runs w (c ∷ x) = at (is_space4 c) (words_runs [] x) (words_runs (w ++ c ∷ []) x)
   where
     at : (b : Bool) → words_after [] x ≡ not_empty (front [] (pieces is_space4 x)) → words_after (w ++ c ∷ []) x ≡ not_empty (front (w ++ c ∷ []) (pieces is_space4 x))
-        → cond b (cond (no_text w) (words_after [] x) (w ∷ words_after [] x)) (words_after (w ++ c ∷ []) x) ≡ not_empty (front w (cond b ([] ∷ pieces is_space4 x) (put c (pieces is_space4 x))))
+        → cond b (cond (is_empty w) (words_after [] x) (w ∷ words_after [] x)) (words_after (w ++ c ∷ []) x) ≡ not_empty (front w (cond b ([] ∷ pieces is_space4 x) (put c (pieces is_space4 x))))
     at true h k =
-        ap (λ ws. cond (no_text w) ws (w ∷ ws)) (h ∙ ap not_empty (pieces_whole is_space4 x))
-        ∙ ap (λ b. cond b (not_empty (pieces is_space4 x)) (w ∷ not_empty (pieces is_space4 x))) (both_empty w)
+        ap (λ ws. cond (is_empty w) ws (w ∷ ws)) (h ∙ ap not_empty (pieces_whole is_space4 x))
         ∙ ap (λ u. cond (is_empty u) (not_empty (pieces is_space4 x)) (u ∷ not_empty (pieces is_space4 x))) (sym (append-nil w))
     at false h k = k ∙ ap not_empty (sym (front_put w c (pieces is_space4 x)))
 
 -- without a form feed the two kinds of white space are one
-spaces : (a b c d e : Bool) → e ≡ false → (a || (b || (d || c))) ≡ ((((a || b) || c) || d) || e)
-spaces true b c d e h = refl
-spaces false true c d e h = refl
-spaces false false true true e h = refl
-spaces false false true false e h = refl
-spaces false false false true e h = refl
-spaces false false false false e h = sym h
+spaces : (b e : Bool) → e ≡ false → b ≡ (b || e)
+spaces true e h = refl
+spaces false e h = sym h
 
 same_space : (c : ℕ) → is_form_feed c ≡ false → is_space4 c ≡ is_space5 c
-same_space c h = spaces (eqb c 32) (eqb c 9) (eqb c 10) (eqb c 13) (eqb c 12) h
+same_space c h = spaces (is_space4 c) (eqb c 12) h
 
 pieces_same : (x : List ℕ) → list_any is_form_feed x ≡ false → pieces is_space4 x ≡ pieces is_space5 x
 pieces_same [] h = refl
