@@ -1,13 +1,11 @@
--- Tests of all elements of a list, one after the other.
-use Rattle.std.proofs.Common.{◌≡◌, ℕ, zero, suc, ◌<◌, List, [], ◌∷◌, length, take, get_or, arith, refl}
-use Rattle.std.specs.Prelude.{Bool, true, false, ◌&&◌}
-use Rattle.std.specs.List.{list_all}
+-- Lists by their last elements.
+use Rattle.std.proofs.Common.{◌≡◌, ℕ, suc, ◌-◌, ◌<◌, List, [], ◌∷◌, ◌++◌, length, take, get_or, refl, ap, arith}
 
-pub all_more : (p : ℕ → Bool) (word : List ℕ) (i : ℕ) → i < length word → list_all p (take i word) ≡ true → p (get_or word i 0) ≡ true → list_all p (take (suc i) word) ≡ true
-all_more p [] i w h e = absurd (omega arith)
-all_more p (x ∷ word) zero w h e = rw e refl
-all_more p (x ∷ word) (suc i) w h e = both (p x) (list_all p (take i word)) (list_all p (take (suc i) word)) h (λ r. all_more p word i (omega arith) r e)
-  where
-    both : (a b c : Bool) → (a && b) ≡ true → (b ≡ true → c ≡ true) → (a && c) ≡ true
-    both true b c q f = f q
-    both false b c q f = q
+-- a list by its last element
+by_place : {A : Type 0} (d : A) (xs : List A) (k : ℕ) → length xs ≡ suc k → xs ≡ take k xs ++ get_or xs k d ∷ []
+by_place d [] k e = absurd (omega arith)
+by_place d (x ∷ []) k e = let z : k ≡ 0 = omega arith in rw z refl
+by_place d (x ∷ y ∷ xs) k e = rw (let z : k ≡ suc (k - 1) = omega arith in z) (ap (λ t. x ∷ t) (by_place d (y ∷ xs) (k - 1) (omega arith)))
+
+pub by_last : {A : Type 0} (d : A) (xs : List A) → 0 < length xs → xs ≡ take (length xs - 1) xs ++ get_or xs (length xs - 1) d ∷ []
+by_last d xs l = by_place d xs (length xs - 1) (omega arith)

@@ -6,7 +6,7 @@ use Rattle.std.specs.List.{list_all}
 abbrev pub is_quote : ℕ → Bool
 is_quote c = (c == 34) || (c == 39)
 
--- the quote that is open behind a byte, 0 where none is: outside quotes each quote opens, and the same quote closes
+-- the quote that is open after a byte, 0 where none is: outside quotes each quote opens, and the same quote closes
 abbrev pub quote_after : ℕ → ℕ → ℕ
 quote_after q c = if q == 0 then (if is_quote c then c else 0) else (if c == q then 0 else q)
 

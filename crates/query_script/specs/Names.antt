@@ -16,6 +16,14 @@ abbrev pub is_name : List ℕ → Bool
 is_name [] = false
 is_name (c ∷ rest) = is_name_start c && list_all is_name_byte rest
 
+abbrev pub is_test_byte : ℕ → Bool
+is_test_byte c = is_name_byte c || (c == 45)
+
+-- the name of a test as a step writes it: an ASCII letter or `_`, then letters, digits, `_` and `-`
+abbrev pub is_test_name : List ℕ → Bool
+is_test_name [] = false
+is_test_name (c ∷ rest) = is_name_start c && list_all is_test_byte rest
+
 abbrev pub is_colon : ℕ → Bool
 is_colon c = c == 58
 
@@ -23,9 +31,9 @@ is_colon c = c == 58
 abbrev pub label : List ℕ → List ℕ
 label piece = trimmed (before_first is_colon piece)
 
--- what stands behind the first colon
-abbrev pub behind_colon : List ℕ → List ℕ
-behind_colon piece = after_first is_colon piece
+-- what stands after the first colon
+abbrev pub after_colon : List ℕ → List ℕ
+after_colon piece = after_first is_colon piece
 
 -- there is a colon, and a name before it
 abbrev pub is_named : List ℕ → Bool

@@ -23,7 +23,7 @@ fn cuts(cut: Cut, byte: u8) -> bool
     }
 }
 
-/// The quote that is open behind a byte, or 0.
+/// The quote that is open after a byte, or 0.
 fn quote_after(quote: u8, byte: u8) -> u8
     ensures { result ≡ quote_after quote byte }
 {
@@ -107,7 +107,7 @@ pub(crate) fn trimmed(text: &str) -> &str
     skip_back(skip_front(text))
 }
 
-#[tactic(auto, using(std::proofs::lemmas::List::Folds::list_all_at, crate::proofs::ListLemmas::all_more))]
+#[tactic(auto, using(std::proofs::lemmas::List::Folds::list_all_at))]
 fn all_blank(text: &str) -> bool
     ensures { result ≡ list_all is_blank text.now }
 {

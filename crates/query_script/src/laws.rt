@@ -1,7 +1,8 @@
 //! Laws of the definitions that the contracts cite.
-ghost use Rattle.query_script.specs.Laws.{HasFieldReason, HasOneFault, HasOneReading, IsReadOrRefused, HasReading};
+ghost use Rattle.query_script.specs.Laws.{HasFieldReason, HasOneCut, HasOneFault, HasOneReading, IsReadOrRefused, HasReading, ReadsMore, TestsStored};
 
-/// Each text reads as one list of fields or is refused as a whole, for one reason and not both.
+/// Where tests are stored, each text reads as one list of fields or is refused as a whole, for one
+/// reason and not both.
 #[tactic(auto, using(crate::proofs::Unique::one_script_fault, crate::proofs::Unique::read_or_refused))]
 pub fn read_or_refused()
     ensures one_reading { HasOneReading }
@@ -10,8 +11,24 @@ pub fn read_or_refused()
     ensures some { HasReading }
 {}
 
-/// A field of a script is refused for its name, its chain, the order of its steps, or the text of
-/// a query; never for what running it may give, nor for want of memory.
+/// A text is one list of steps at most, though each step may be written in several ways.
+pub fn one_cut()
+    ensures { HasOneCut }
+{}
+
+/// A field of a script is refused for its name, its chain, the order of its steps, the name of a
+/// test, or the text of a query; never for what running it may give, for what a block of records
+/// alone may have, nor for want of memory.
 pub fn reasons_of_fields()
     ensures { HasFieldReason }
+{}
+
+/// A field that has no reason where no tests are stored is the same field where some are.
+pub fn reads_more()
+    ensures { ReadsMore }
+{}
+
+/// The tests that a field of a script keeps items by are stored.
+pub fn tests_stored()
+    ensures { TestsStored }
 {}

@@ -1,16 +1,22 @@
-//! Scripts: fields of a name, a chain of css, xpath and re steps and an end, read from a text.
+//! Scripts: fields of a name, a chain of css, xpath, re and keep steps and an end, read from a text.
 #![tactic(auto)]
 
 mod chains;
 mod cuts;
 mod fields;
+mod keeps;
 mod laws;
 mod names;
 mod parsing;
 mod queries;
 mod script;
 mod steps;
+mod strings;
 
-pub use laws::{read_or_refused, reasons_of_fields};
-pub use parsing::parse_script;
+pub use chains::cut_steps;
+pub use fields::parse_field_with;
+pub use laws::{one_cut, read_or_refused, reads_more, reasons_of_fields, tests_stored};
+pub use parsing::{parse_script, parse_script_with};
+pub use queries::{Found, find_step};
 pub use script::{Chain, ChainStep, Field, FieldValue, Reason, Script, Take};
+pub use steps::RawStep;

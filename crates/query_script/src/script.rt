@@ -1,6 +1,7 @@
 ghost use Rattle.std.specs.Prelude.{◌≡◌};
 ghost use Rattle.query_script.specs.Words.{first_word, second_word};
 
+use test_registry::TestKind;
 use text_base::{SelectorFault, Seq, Txt, XPathFault};
 
 /// What a text asks of each page.
@@ -26,11 +27,13 @@ pub enum Chain {
     Refused(Reason),
 }
 
-/// A query, as XPath text, or a pattern that is matched on the texts of what came.
+/// A query, as XPath text; a pattern that is matched on the texts of what came; or a stored test
+/// with the text that it is asked, beside the text of each item, to keep the item.
 #[derive(Debug, Drop)]
 pub enum ChainStep {
     Query(Txt),
     Match(Txt),
+    Keep(TestKind, Txt),
 }
 
 /// The first of what the last step gave, or all of it.
@@ -45,10 +48,16 @@ pub enum Take {
 pub enum Reason {
     /// No name stands before the first colon, or there is no colon.
     Name,
-    /// What stands behind the colon is no steps and an end.
+    /// What stands after the colon is no steps and an end.
     Chain,
     /// A query on strings.
     Order,
+    /// A test that is not stored.
+    Test,
+    /// What stands after the colon of a block of records is no steps, `each` and fields in braces.
+    Block,
+    /// Two fields of a block of records have the same name.
+    Twice,
     /// A step gives more items than it may.
     Selection,
     /// Strings have more bytes together than they may.
@@ -81,6 +90,9 @@ impl Reason {
             Reason::Name => ("field", "Name"),
             Reason::Chain => ("field", "Chain"),
             Reason::Order => ("field", "Order"),
+            Reason::Test => ("field", "Test"),
+            Reason::Block => ("field", "Block"),
+            Reason::Twice => ("field", "Twice"),
             Reason::Selection => ("field", "Selection"),
             Reason::Output => ("field", "Output"),
             Reason::Pattern => ("re", "Pattern"),

@@ -1,103 +1,99 @@
 //! One step as it is written.
-ghost use Rattle.std.specs.Prelude.{◌≡◌, ◌≢◌, ◌<◌, false, option_map, string_bytes, IfOk};
-ghost use Rattle.query_script.specs.Cuts.{is_quote};
-ghost use Rattle.query_script.specs.inner.Reader.{unquoted, read_kind, read_string, read_step, written_of};
+ghost use Rattle.std.specs.Prelude.{◌≡◌, Some, None, MatchOption, IfOk};
+ghost use Rattle.query_script.specs.inner.Reader.{read_word, inside_of, read_inside, read_step};
 
+use crate::cuts::trimmed;
+use crate::keeps::read_keep;
 use crate::names::split_at;
+use crate::strings::read_string;
 use std::alloc::Global;
-use text_base::{NoMemory, byte_at, find_byte, part};
+use text_base::{NoMemory, Txt, byte_at, part};
 
-/// What a step does: a query by a selector, a query by XPath, or a match of a pattern.
+/// A step as it is written, with what its strings stand for: a query by a selector, a query by
+/// XPath, a match of a pattern, or the name of a test and the text that it is asked.
+#[derive(Debug, Drop)]
+pub enum RawStep {
+    Css(Txt),
+    XPath(Txt),
+    Re(Txt),
+    Keep(Txt, Txt),
+}
+
+/// The word before a step's bracket.
 #[derive(Clone, Copy)]
-pub(crate) enum Kind {
+pub(crate) enum Word {
     Css,
     XPath,
     Re,
+    Keep,
 }
 
-/// A step, the quote that its string stands in, and what the string stands for.
-#[derive(Drop)]
-pub(crate) struct StepText {
-    pub(crate) kind: Kind,
-    pub(crate) quote: u8,
-    pub(crate) value: String,
-}
-
-fn is_quote(byte: u8) -> bool
-    ensures { result ≡ is_quote byte }
+/// The word that stands before a bracket, where blanks may stand beside `keep` alone.
+fn word_of(text: &str) -> Option<Word>
+    ensures { result ≡ read_word text.now }
 {
-    byte == b'"' || byte == b'\''
-}
-
-/// What the string stands for of which this is all behind the quote that opens it, `)` included.
-fn unquoted(alloc: Global, quote: u8, text: &str) -> Result<Option<String>, NoMemory>
-    requires some { quote ≢ 0 }
-    requires ascii { quote < 128 }
-    ensures { IfOk result (λ found. option_map string_bytes found ≡ unquoted quote false text.now) }
-{
-    let mut value = String::new(alloc);
-    let mut at: usize = 0;
-    while at < text.len() {
-        let end = find_byte(text, quote, at);
-        value.push_str(part(text, at, end))?;
-        if end + 1 >= text.len() {
-            return Ok(None);
-        }
-        let next = byte_at(text, end + 1);
-        if next != quote {
-            if next == b')' && end + 2 == text.len() {
-                return Ok(Some(value));
-            }
-            return Ok(None);
-        }
-        value.push_str(part(text, end, end + 1))?;
-        at = end + 2;
+    if trimmed(text) == "keep" {
+        return Some(Word::Keep);
     }
-    Ok(None)
-}
-
-fn kind_of(word: &str) -> Option<Kind>
-    ensures { result ≡ read_kind word.now }
-{
-    if word == "css" {
-        return Some(Kind::Css);
+    if text == "css" {
+        return Some(Word::Css);
     }
-    if word == "xpath" {
-        return Some(Kind::XPath);
+    if text == "xpath" {
+        return Some(Word::XPath);
     }
-    if word == "re" {
-        return Some(Kind::Re);
+    if text == "re" {
+        return Some(Word::Re);
     }
     None
 }
 
-/// The step of this kind by what stands behind its bracket.
-#[tactic(auto, using(crate::proofs::StepLemmas::string_at, crate::proofs::StepLemmas::quote_some, crate::proofs::StepLemmas::quote_ascii, crate::proofs::StepLemmas::past_quote))]
-fn read_string(alloc: Global, kind: Kind, text: &str) -> Result<Option<StepText>, NoMemory>
-    ensures { IfOk result (λ found. option_map written_of found ≡ read_string kind text.now) }
+/// What stands before the bracket that closes the text.
+#[tactic(auto, using(crate::proofs::StepLemmas::no_text, crate::proofs::StepLemmas::no_bracket, crate::proofs::StepLemmas::bracket, text_base::proofs::Boundaries::at_start, text_base::proofs::Boundaries::before_ascii))]
+fn inside(text: &str) -> Option<&str>
+    ensures { MatchOption result (inside_of text.now ≡ None) (λ t. inside_of text.now ≡ Some t.now) }
 {
     if text.is_empty() {
-        return Ok(None);
+        return None;
     }
-    let quote = byte_at(text, 0);
-    if !is_quote(quote) {
-        return Ok(None);
+    if byte_at(text, text.len() - 1) != b')' {
+        return None;
     }
-    match unquoted(alloc, quote, part(text, 1, text.len()))? {
-        None => Ok(None),
-        Some(value) => Ok(Some(StepText { kind, quote, value })),
+    Some(part(text, 0, text.len() - 1))
+}
+
+/// The step of this word by what stands in its brackets.
+fn read_inside(alloc: Global, word: Word, text: &str) -> Result<Option<RawStep>, NoMemory>
+    ensures { IfOk result (λ found. found ≡ read_inside word text.now) }
+{
+    match word {
+        Word::Keep => read_keep(alloc, text),
+        Word::Css => match read_string(alloc, text)? {
+            None => Ok(None),
+            Some(value) => Ok(Some(RawStep::Css(value))),
+        },
+        Word::XPath => match read_string(alloc, text)? {
+            None => Ok(None),
+            Some(value) => Ok(Some(RawStep::XPath(value))),
+        },
+        Word::Re => match read_string(alloc, text)? {
+            None => Ok(None),
+            Some(value) => Ok(Some(RawStep::Re(value))),
+        },
     }
 }
 
 /// The step that a part of a chain is, without blanks at its ends.
-pub(crate) fn read_step(alloc: Global, part: &str) -> Result<Option<StepText>, NoMemory>
-    ensures { IfOk result (λ found. option_map written_of found ≡ read_step part.now) }
+pub(crate) fn read_step(alloc: Global, part: &str) -> Result<Option<RawStep>, NoMemory>
+    ensures { IfOk result (λ found. found ≡ read_step part.now) }
 {
     let Some((word, rest)) = split_at(part, b'(') else {
         return Ok(None);
     };
-    let Some(kind) = kind_of(word) else {
+    let Some(word) = word_of(word) else {
         return Ok(None);
     };
-    read_string(alloc, kind, rest)
+    let Some(text) = inside(rest) else {
+        return Ok(None);
+    };
+    read_inside(alloc, word, text)
 }
