@@ -23,8 +23,8 @@ fn cuts(cut: Cut, byte: u8) -> bool
     }
 }
 
-/// The quote that is open after a byte, or 0.
-fn quote_after(quote: u8, byte: u8) -> u8
+/// The quote that is open after a byte, or 0, where this quote was open before it, or none and then 0.
+pub fn quote_after(quote: u8, byte: u8) -> u8
     ensures { result ≡ quote_after quote byte }
 {
     if quote == 0 {
@@ -100,8 +100,8 @@ fn skip_back(text: &str) -> &str
     rest
 }
 
-/// The text without the blanks at its two ends.
-pub(crate) fn trimmed(text: &str) -> &str
+/// The text without the blanks at its two ends. Blanks are spaces, tabs and carriage returns.
+pub fn trimmed(text: &str) -> &str
     ensures { result.now ≡ trimmed text.now }
 {
     skip_back(skip_front(text))
@@ -119,8 +119,8 @@ fn all_blank(text: &str) -> bool
     true
 }
 
-/// The pieces that are not blanks alone.
-fn written<'t>(alloc: Global, all: &[&'t str]) -> Result<Vec<&'t str>, NoMemory>
+/// The pieces that are not blanks alone, in their order.
+pub fn written<'t>(alloc: Global, all: &[&'t str]) -> Result<Vec<&'t str>, NoMemory>
     ensures { IfOk result (λ v. map (λ p. p.now) v.items ≡ filter is_written (map (λ p. p.now) all.now)) }
 {
     let mut some = Vec::new(alloc);
@@ -133,8 +133,9 @@ fn written<'t>(alloc: Global, all: &[&'t str]) -> Result<Vec<&'t str>, NoMemory>
     Ok(some)
 }
 
-/// The pieces of a script that are fields.
-pub(crate) fn field_pieces(alloc: Global, text: &str) -> Result<Vec<&str>, NoMemory>
+/// The pieces of a script that are fields, with no copy: what stands between two semicolons or line feeds outside quotes, where
+/// it is not blanks alone.
+pub fn field_pieces(alloc: Global, text: &str) -> Result<Vec<&str>, NoMemory>
     ensures { IfOk result (λ v. map (λ p. p.now) v.items ≡ fields_of text.now) }
 {
     let all = pieces(alloc, text, Cut::Fields)?;

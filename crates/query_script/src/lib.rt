@@ -14,8 +14,10 @@ mod steps;
 mod strings;
 
 pub use chains::cut_steps;
+pub use cuts::{field_pieces, quote_after, trimmed, written};
 pub use fields::parse_field_with;
 pub use laws::{one_cut, read_or_refused, reads_more, reasons_of_fields, tests_stored};
+pub use names::name_and_rest;
 pub use parsing::{parse_script, parse_script_with};
 pub use queries::{Found, find_step};
 pub use script::{Chain, ChainStep, Field, FieldValue, Reason, Script, Take};

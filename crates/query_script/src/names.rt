@@ -80,8 +80,9 @@ pub(crate) fn is_test_name(text: &[u8]) -> bool
     is_name_start(*first) && all_test(rest)
 }
 
-/// The name of a field and what stands after its colon, where there are both.
-pub(crate) fn name_and_rest(piece: &str) -> Option<(&str, &str)>
+/// The name of a field and what stands after its colon, where there are both: before the piece's first colon stands a name,
+/// with blanks around it or not.
+pub fn name_and_rest(piece: &str) -> Option<(&str, &str)>
     ensures { MatchOption result (is_named piece.now ≡ false) (λ sides. (is_named piece.now ≡ true) × (sides.0.now ≡ label piece.now) × (sides.1.now ≡ after_colon piece.now)) }
 {
     let (before, rest) = split_at(piece, b':')?;
