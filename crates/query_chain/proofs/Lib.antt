@@ -2,6 +2,7 @@ pub mod Adding
 pub mod Building
 pub mod Errors
 pub mod ItemTexts
+pub mod Keeping
 pub mod Lists
 pub mod Matching
 pub mod Readying
@@ -10,6 +11,5 @@ pub mod Selecting
 pub mod Shapes
 pub mod Starts
 pub mod Stepping
-pub mod Tasks
 pub mod Values
 pub mod Words

@@ -39,9 +39,6 @@ pub whole_added : (limits : Limits) (f g : Found) (c : Captures) (m : Match) (gr
     t ≡ span_text (captures_haystack c) (captures_span c 0) → Adds limits f g (chars t ∷ []) → Adds limits f g (map chars (texts_of groups (captures_haystack c) m))
 whole_added limits f g c m groups t h is e a = subst (λ ts. Adds limits f g ts) (sym (ap (map chars) (whole_texts c m groups h is ∙ ap (λ x. x ∷ []) (sym e)))) a
 
-pub whole_many : (groups : ℕ) (hay : List ℕ) (m : Match) (n count : ℕ) → groups ≤ 1 → n < count + 1 → n < count + length (texts_of groups hay m)
-whole_many groups hay m n count h more = let e : nat_le groups 1 ≡ true = le-leb groups 1 h in let s : length (texts_of groups hay m) ≡ 1 = rw e refl in omega (arith, s, more)
-
 -- one group more
 pub group_added : (limits : Limits) (f g h : Found) (c : Captures) (m : Match) (k : ℕ) (t : List ℕ) → 1 ≤ k → IsCapturesOf (captures_haystack c) m c →
     Adds limits f g (map chars (map (group_text (captures_haystack c) m) (range_with_len 1 (k - 1)))) → t ≡ span_text (captures_haystack c) (captures_span c k) →
@@ -53,10 +50,6 @@ group_added limits f g h c m k t low is before e one =
     let size : k + 1 - 1 ≡ k - 1 + 1 = omega arith in
     let whole = ap (λ n. map chars (map (group_text hay m) (range_with_len 1 n))) size ∙ (ap (map chars) more ∙ map-append chars (map (group_text hay m) (range_with_len 1 (k - 1))) (group_text hay m k ∷ [])) in
     subst (λ ts. Adds limits f h ts) (sym whole) (adds_both limits f g h _ _ before (subst (λ x. Adds limits g h (chars x ∷ [])) here one))
-
-pub groups_added : (limits : Limits) (f g : Found) (groups : ℕ) (hay : List ℕ) (m : Match) → 1 < groups →
-    Adds limits f g (map chars (map (group_text hay m) (range_with_len 1 (groups - 1)))) → Adds limits f g (map chars (texts_of groups hay m))
-groups_added limits f g groups hay m h a = subst (λ ts. Adds limits f g (map chars ts)) (sym (group_texts groups hay m h)) a
 
 pub groups_many : (limits : Limits) (f g : Found) (groups k : ℕ) (hay : List ℕ) (m : Match) → 1 ≤ k → k < groups →
     Adds limits f g (map chars (map (group_text hay m) (range_with_len 1 (k - 1)))) → limits.items < g.count + 1 → limits.items < f.count + length (texts_of groups hay m)
@@ -84,17 +77,6 @@ next_added limits f g re re' hay start after groups end c s at same found adds w
     let own : captures_haystack c ≡ hay = found.2.0 in
     let is : IsCapturesOf (captures_haystack c) m c = subst (λ (h : List ℕ). IsCapturesOf h m c) (sym own) found.2 in
     (m, sym at ∙ (ap (λ (r : Re). find_str r hay start) (sym same) ∙ found.1), e ∙ end_of c m s is whole, subst (λ (h : List ℕ). Adds limits f g (map chars (texts_of groups h m))) own (adds m is))
-
-pub next_many : (n count : ℕ) (re re' : Re) (hay : List ℕ) (start after groups : ℕ) (c : Captures) →
-    find_str re hay start ≡ next_match true re hay after → re' ≡ re →
-    ((m : Match) × (find_str re' hay start ≡ Some m) × IsCapturesOf hay m c) →
-    ((m : Match) → IsCapturesOf (captures_haystack c) m c → n < count + length (texts_of groups (captures_haystack c) m)) →
-    (m : Match) × (next_match true re hay after ≡ Some m) × (n < count + length (texts_of groups hay m))
-next_many n count re re' hay start after groups c at same found many =
-    let m = found.0 in
-    let own : captures_haystack c ≡ hay = found.2.0 in
-    let is : IsCapturesOf (captures_haystack c) m c = subst (λ (h : List ℕ). IsCapturesOf h m c) (sym own) found.2 in
-    (m, sym at ∙ (ap (λ (r : Re). find_str r hay start) (sym same) ∙ found.1), subst (λ (h : List ℕ). n < count + length (texts_of groups h m)) own (many m is))
 
 -- ---- all matches
 

@@ -12,8 +12,9 @@ use Rattle.xpath_parser.specs.declared.typed.Typed.{Typed}
 use Rattle.xpath_parser.specs.Typed.{expression}
 use Rattle.xpath_parser.specs.Shapes.{shape_of, is_nodes}
 use Rattle.xpath_parser.specs.Denote.{denote}
-use Rattle.query_chain.specs.Chains.{Action, select, gives, step_items, value_items}
+use Rattle.query_chain.specs.Chains.{gives, step_items, value_items}
 use Rattle.query_chain.specs.Items.{Item, node, text, strings, bytes_of}
+use Rattle.query_chain.specs.Tasks.{Action, select}
 use Rattle.query_chain.specs.inner.Values.{is_rows}
 use Rattle.query_chain.proofs.Adding.{bytes-append}
 use Rattle.query_chain.proofs.Lists.{flat_split, flat_more, strings_texts, strings-append}

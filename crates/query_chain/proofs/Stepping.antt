@@ -10,8 +10,9 @@ use Rattle.query_script.specs.declared.script.Reason.TheVariants as reason
 use Rattle.query_chain.specs.declared.limits.Limits.{Limits}
 use Rattle.query_chain.specs.declared.limits.Stop.{Stop}
 use Rattle.query_chain.specs.declared.limits.Stop.TheVariants.{Selection, Output, Memory}
-use Rattle.query_chain.specs.Chains.{Action, select, search, step_items, searched, item_text, item_texts, if_passed, is_over, step_passes, steps_pass, end_passes, first_reason, last_items, taken_texts, value_of, answer}
+use Rattle.query_chain.specs.Chains.{step_items, searched, item_text, item_texts, if_passed, is_over, step_passes, steps_pass, end_passes, first_reason, last_items, taken_texts, value_of, answer}
 use Rattle.query_chain.specs.Items.{Item, node, text, strings, bytes_of}
+use Rattle.query_chain.specs.Tasks.{Action, select, search}
 use Rattle.query_chain.specs.inner.Steps.{IsFirst, IsStopOf}
 use Rattle.query_chain.specs.Patterns.{found_texts}
 use Rattle.query_script.specs.declared.script.Take.{Take}
@@ -34,10 +35,6 @@ none_of true b c i j k = cc
 none_of false true c i j k = cc
 none_of false false true i j k = cc
 
-first_of_three : (a b c : Bool) → a ≡ true → (more : List Reason) × (three a b c ≡ reason.Output ∷ more)
-first_of_three true b c i = (_, refl)
-first_of_three false b c i = cc
-
 second_of_three : (a b c : Bool) → a ≡ false → b ≡ true → (more : List Reason) × (three a b c ≡ reason.Selection ∷ more)
 second_of_three false true c i j = (_, refl)
 second_of_three true b c i j = cc
@@ -55,10 +52,6 @@ module _ (limits : Limits) (doc : Document) (a : Action) (items : List Item) whe
       none_of (is_over limits (searched doc a items)) (nat_lt limits.items (length (step_items doc a items))) (is_over limits (strings (step_items doc a items)))
       (is_within limits (searched doc a items) h) (le-ltb limits.items (length (step_items doc a items)) k) (is_within limits (strings (step_items doc a items)) m)
 
-  pub passes_searched : limits.bytes < bytes_of (searched doc a items) → IsFirst Output (step_passes limits doc a items)
-  passes_searched h =
-      first_of_three (is_over limits (searched doc a items)) (nat_lt limits.items (length (step_items doc a items))) (is_over limits (strings (step_items doc a items))) (over_it limits (searched doc a items) h)
-
   pub passes_many : bytes_of (searched doc a items) ≤ limits.bytes → limits.items < length (step_items doc a items) → IsFirst Selection (step_passes limits doc a items)
   passes_many h k =
       second_of_three (is_over limits (searched doc a items)) (nat_lt limits.items (length (step_items doc a items))) (is_over limits (strings (step_items doc a items)))
@@ -68,13 +61,6 @@ module _ (limits : Limits) (doc : Document) (a : Action) (items : List Item) whe
   passes_over h k m =
       third_of_three (is_over limits (searched doc a items)) (nat_lt limits.items (length (step_items doc a items))) (is_over limits (strings (step_items doc a items)))
       (is_within limits (searched doc a items) h) (le-ltb limits.items (length (step_items doc a items)) k) (over_it limits (strings (step_items doc a items)) m)
-
--- at the end
-pub end_none : (limits : Limits) (doc : Document) (ts : List (List ℕ)) → bytes_of ts ≤ limits.bytes → end_passes limits doc ts ≡ []
-end_none limits doc ts h = ap (λ b. if_passed b reason.Output) (is_within limits ts h)
-
-pub end_over : (limits : Limits) (doc : Document) (ts : List (List ℕ)) → limits.bytes < bytes_of ts → IsFirst Output (end_passes limits doc ts)
-end_over limits doc ts h = ([], ap (λ b. if_passed b reason.Output) (over_it limits ts h))
 
 -- what a search gives, from the texts that it searches
 pub search_texts : (doc : Document) (source : List ℕ) (items : List Item) → step_items doc (search source) items ≡ map text (flat_map (found_texts source) (item_texts doc items))
@@ -185,12 +171,6 @@ stopped_search limits doc source items ts Output e h k m =
     passes_over limits doc (search source) items h (omega (arith, size, same, few)) (omega (arith, bytes, over))
 stopped_search limits doc source items ts Memory e h k m = tt
 
-pub stopped_searched : (limits : Limits) (doc : Document) (source : List ℕ) (items : List Item) (s : Stop) → (s ≡ Selection → ⊥) → (s ≡ Output → limits.bytes < bytes_of (item_texts doc items)) →
-    IsFirst s (step_passes limits doc (search source) items)
-stopped_searched limits doc source items Selection h k = absurd (h refl)
-stopped_searched limits doc source items Output h k = passes_searched limits doc (search source) items (k refl)
-stopped_searched limits doc source items Memory h k = tt
-
 pub search_items : (doc : Document) (source : List ℕ) (items : List Item) (ts got : List (List ℕ)) → ts ≡ item_texts doc items → got ≡ flat_map (found_texts source) ts →
     map text got ≡ step_items doc (search source) items
 search_items doc source items ts got e n = ap (map text) (n ∙ ap (flat_map (found_texts source)) e) ∙ sym (search_texts doc source items)
@@ -203,12 +183,6 @@ search_passes limits doc source items ts got e n h few within =
     let same = length-map got text in
     let bytes = ap bytes_of (ap strings (sym given) ∙ strings_texts got) in
     passes_none limits doc (search source) items h (omega (arith, size, same, few)) (omega (arith, bytes, within))
-
--- why the end was stopped
-pub stopped_end : (limits : Limits) (doc : Document) (ts : List (List ℕ)) (s : Stop) → (s ≡ Selection → ⊥) → (s ≡ Output → limits.bytes < bytes_of ts) → IsFirst s (end_passes limits doc ts)
-stopped_end limits doc ts Selection h k = absurd (h refl)
-stopped_end limits doc ts Output h k = end_over limits doc ts (k refl)
-stopped_end limits doc ts Memory h k = tt
 
 -- the value of the chain
 pub answered : (limits : Limits) (doc : Document) (x : ℕ) (actions : List Action) (end : Take) (items : List Item) (ts : List (List ℕ)) → items ≡ last_items doc (node x ∷ []) actions →

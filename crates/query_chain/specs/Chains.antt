@@ -1,6 +1,5 @@
--- The value of a field on a document: what its steps give, one after the other, within limits.
-use Rattle.std.specs.Prelude.{◌≡◌, ◌⊎◌, ℕ, Bool, true, false, not, nat_lt, is_some, List, [], ◌∷◌, ◌++◌, map, flat_map, length, take, Some, None, encode_utf8_all}
-use Rattle.std.specs.List.{list_any}
+-- The value of a field on a document where some tests are stored: what its steps give, one after the other, within limits.
+use Rattle.std.specs.Prelude.{◌≡◌, ℕ, Bool, true, false, if◌then◌else◌, nat_lt, List, [], ◌∷◌, ◌++◌, map, flat_map, length, take, Some, None, encode_utf8_all}
 use Rattle.doc_model.specs.Document.{Document, row}
 use Rattle.doc_model.specs.declared.Kind.{Kind}
 use Rattle.doc_model.specs.declared.Kind.TheVariants.{Root, Element, Attribute, Text, Comment}
@@ -9,13 +8,9 @@ use Rattle.xpath_values.specs.declared.value.Value.{Value}
 use Rattle.xpath_values.specs.declared.value.Value.TheVariants.{Nodes, Num, Str, Bool as Truth}
 use Rattle.xpath_values.specs.Numbers.{num_text}
 use Rattle.xpath_values.specs.Strings.{text_of_bool}
-use Rattle.xpath_parser.specs.declared.expression.Expr.{Expr}
+use Rattle.test_registry.specs.Meets.{meets}
+use Rattle.test_registry.specs.Names.{Known}
 use Rattle.xpath_parser.specs.Denote.{denote}
-use Rattle.xpath_parser.specs.Reading.{ReadsAs}
-use Rattle.query_script.specs.declared.script.Chain.{Chain}
-use Rattle.query_script.specs.declared.script.Chain.TheVariants as chain
-use Rattle.query_script.specs.declared.script.ChainStep.{ChainStep}
-use Rattle.query_script.specs.declared.script.ChainStep.TheVariants as step
 use Rattle.query_script.specs.declared.script.Field.{Field}
 use Rattle.query_script.specs.declared.script.FieldValue.{FieldValue}
 use Rattle.query_script.specs.declared.script.FieldValue.TheVariants as value
@@ -25,36 +20,8 @@ use Rattle.query_script.specs.declared.script.Take.{Take}
 use Rattle.query_script.specs.declared.script.Take.TheVariants as taken
 use Rattle.query_chain.specs.declared.limits.Limits.{Limits}
 use Rattle.query_chain.specs.Items.{Item, node, text, strings, bytes_of}
-use Rattle.query_chain.specs.Patterns.{pattern_of, found_texts}
-
--- ---- what a step does
-
--- An expression, whose value is taken at each item, or the characters of a pattern, which is searched in each item's text.
-pub data Action : Type 0 where
-  select : Expr → Action
-  search : List ℕ → Action
-
-abbrev pub is_pattern : List ℕ → Bool
-is_pattern source = is_some (pattern_of source)
-
--- the step does this: its text reads as the expression, or its characters are that pattern
-abbrev pub IsAction : ChainStep → Action → Type 0
-IsAction (step.Query query) (select x) = ReadsAs (encode_utf8_all query) x
-IsAction (step.Query query) (search source) = ⊥
-IsAction (step.Match pattern) (select x) = ⊥
-IsAction (step.Match pattern) (search source) = (source ≡ pattern) × (is_pattern pattern ≡ true)
-
--- each step does the action at its place
-abbrev pub AreActions : List ChainStep → List Action → Type 0
-AreActions [] [] = Unit {0}
-AreActions [] (a ∷ actions) = ⊥
-AreActions (s ∷ steps) [] = ⊥
-AreActions (s ∷ steps) (a ∷ actions) = IsAction s a × AreActions steps actions
-
--- the step searches for what is no pattern
-abbrev pub is_refused : ChainStep → Bool
-is_refused (step.Query query) = false
-is_refused (step.Match pattern) = not (is_pattern pattern)
+use Rattle.query_chain.specs.Patterns.{found_texts}
+use Rattle.query_chain.specs.Tasks.{Action, select, search, keep, Task, refuses, does, IsTaskOver}
 
 -- ---- items, and what a step makes of them
 
@@ -81,12 +48,14 @@ module _ (doc : Document) where
   abbrev pub item_texts : List Item → List (List ℕ)
   item_texts items = map item_text items
 
-  -- What an item gives: the value of the expression there, at position 1 of 1, or what the pattern finds in its text. No
-  -- expression meets a text, since queries stand only after queries that give nodes.
+  -- What an item gives: the value of the expression there, at position 1 of 1; what the pattern finds in its text; or the item
+  -- itself where its text and the other meet the kind, on their bytes. No expression meets a text, since queries stand only
+  -- after queries that give nodes.
   abbrev pub gives : Action → Item → List Item
   gives (select x) (node r) = value_items (denote doc x (record { row = r; position = 1; size = 1 }))
   gives (select x) (text t) = []
   gives (search source) item = map text (found_texts source (item_text item))
+  gives (keep kind other) item = if meets kind (encode_utf8_all (item_text item)) (encode_utf8_all other) then item ∷ [] else []
 
   -- what a step gives: what the items give, joined in order, with their repeats
   abbrev pub step_items : Action → List Item → List Item
@@ -97,10 +66,11 @@ module _ (doc : Document) where
   last_items items [] = items
   last_items items (a ∷ actions) = last_items (step_items a items) actions
 
-  -- the texts that a step searches
+  -- the texts that a step looks at: a search and a test look at those of all items that they are given
   abbrev pub searched : Action → List Item → List (List ℕ)
   searched (select x) items = []
   searched (search source) items = item_texts items
+  searched (keep kind other) items = item_texts items
 
 -- ---- the limits
 
@@ -114,8 +84,8 @@ abbrev pub is_over : Limits → List (List ℕ) → Bool
 is_over limits ts = nat_lt limits.bytes (bytes_of ts)
 
 module _ (limits : Limits) (doc : Document) where
-  -- the limits that a step passes, in the order in which they are looked at: the bytes searched, the number of items, the
-  -- bytes of the items that are texts
+  -- the limits that a step passes, in the order in which they are looked at: the bytes looked at, the number of
+  -- items, the bytes of the items that are texts
   abbrev pub step_passes : Action → List Item → List Reason
   step_passes a items =
       if_passed (is_over limits (searched doc a items)) reason.Output
@@ -158,14 +128,6 @@ answer limits doc x actions end =
     let given = taken_texts end (item_texts doc (last_items doc start actions)) in
     first_reason (steps_pass limits doc start actions ++ end_passes limits doc given) (value_of end given)
 
--- The value of a chain from row x: its own reason, if it has one; Pattern where a step searches for what is no pattern; and
--- else what its steps do.
-abbrev pub IsChainValue : Limits → Document → ℕ → Chain → FieldValue → Type 0
-IsChainValue limits doc x (chain.Refused why) v = v ≡ value.Refused why
-IsChainValue limits doc x (chain.Steps steps end) v =
-    ((list_any is_refused steps ≡ true) × (v ≡ value.Refused reason.Pattern))
-    ⊎ ((actions : List Action) × AreActions steps actions × (v ≡ answer limits doc x actions end))
-
 -- the most items that a step gives
 abbrev pub most_items : ℕ
 most_items = 1000000
@@ -177,10 +139,22 @@ most_text = 8388608
 abbrev pub field_limits : Limits
 field_limits = record { items = most_items; bytes = most_text }
 
--- the value of a field whose chain starts with row x
-abbrev pub IsValueAt : Document → ℕ → Field → FieldValue → Type 0
-IsValueAt doc x field v = IsChainValue field_limits doc x field.chain v
+-- what a task has as its value, from row x: the reason, or what its actions give
+abbrev pub outcome : Document → ℕ → Task → FieldValue
+outcome doc x (refuses why) = value.Refused why
+outcome doc x (does actions end) = answer field_limits doc x actions end
+
+-- the value of a field whose chain starts with row x, where these tests are stored: that of its task
+abbrev pub IsValueAtOver : Known → Document → ℕ → Field → FieldValue → Type 0
+IsValueAtOver tests doc x field v = (task : Task) × IsTaskOver tests field task × (v ≡ outcome doc x task)
 
 -- the value of a field, from the root node
+abbrev pub IsValueOver : Known → Document → Field → FieldValue → Type 0
+IsValueOver tests doc field v = IsValueAtOver tests doc 0 field v
+
+-- the same where no tests are stored
+abbrev pub IsValueAt : Document → ℕ → Field → FieldValue → Type 0
+IsValueAt doc x field v = IsValueAtOver [] doc x field v
+
 abbrev pub IsValue : Document → Field → FieldValue → Type 0
-IsValue doc field v = IsValueAt doc 0 field v
+IsValue doc field v = IsValueOver [] doc field v

@@ -107,7 +107,7 @@ fn texts_of_rows<T: Tree>(
 }
 
 /// Whether texts have at most `limit` bytes together.
-fn are_within(texts: &[Txt], limit: usize) -> bool
+pub fn are_within(texts: &[Txt], limit: usize) -> bool
     ensures { result ≡ nat_le (bytes_of texts.now) limit }
 {
     let mut left = limit;

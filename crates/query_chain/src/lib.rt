@@ -3,6 +3,7 @@
 
 mod found;
 mod items;
+mod keep;
 mod laws;
 mod limits;
 mod pattern;
@@ -14,5 +15,5 @@ mod select;
 mod steps;
 
 pub use laws::{a_value, one_value};
-pub use ready::{Ready, prepare};
-pub use run::{run_field, run_ready_at};
+pub use ready::{Ready, prepare_with};
+pub use run::{run_field, run_field_at, run_field_with, run_ready_at};

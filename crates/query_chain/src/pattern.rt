@@ -7,6 +7,7 @@ ghost use Rattle.query_chain.specs.inner.Built.{IsBuilt};
 
 use regex::{Error, Regex};
 use std::alloc::{AllocFailed, Global};
+use text_base::NoMemory;
 
 /// Why a pattern was not built.
 #[derive(Clone, Copy, Debug, PartialEq, Eq)]
@@ -15,6 +16,17 @@ pub enum BuildFault {
     Pattern,
     /// No memory was found, or the pattern takes more of it than `regex` allows.
     Memory,
+}
+
+impl From<NoMemory> for BuildFault {
+    ghost use Rattle.std.specs.Prelude.{◌≡◌};
+    ghost use Rattle.query_chain.specs.declared.pattern.BuildFault.TheVariants.{Memory};
+
+    ghost from_gives = { λ _ e. e ≡ Memory };
+
+    fn from(_: NoMemory) -> Self {
+        BuildFault::Memory
+    }
 }
 
 impl<T: Drop> From<AllocFailed<T>> for BuildFault {

@@ -1,22 +1,25 @@
 //! A query at each of some rows.
 ghost use Rattle.std.specs.Prelude.{◌≡◌, ◌≢◌, ◌<◌, ◌≤◌, ◌+◌, ◌∷◌, ◌++◌, [], true, false, length, map, codes, encode_utf8_all, IfOk, OnOk, IsErrOf};
 ghost use Rattle.doc_model.specs.RowLists.{AllBelow};
+ghost use Rattle.test_registry.specs.View.{known};
 ghost use Rattle.xpath_values.specs.Numbers as numbers;
 ghost use Rattle.xpath_values.specs.Strings as strings_of;
 ghost use Rattle.xpath_values.specs.declared.value.XNum.TheVariants.{Whole};
 ghost use Rattle.xpath_parser.specs.Conversions as spec;
 ghost use Rattle.xpath_parser.specs.Shapes.{shape_of, is_nodes};
-ghost use Rattle.xpath_parser.specs.Asking.{AsksNone};
+ghost use Rattle.xpath_parser.specs.Asking.{AsksOnly};
 ghost use Rattle.xpath_parser.specs.Typed.{expression};
-ghost use Rattle.query_chain.specs.Chains.{select, step_items, value_items};
+ghost use Rattle.query_chain.specs.Chains.{step_items, value_items};
 ghost use Rattle.query_chain.specs.Items.{node, text, strings, bytes_of};
+ghost use Rattle.query_chain.specs.Tasks.{select};
 ghost use Rattle.query_chain.specs.inner.Values.{is_rows};
 
 use crate::limits::{Limits, Stop};
 use doc_model::Axes;
 use std::alloc::Global;
+use test_registry::Tests;
 use text_base::{NoMemory, Seq, Txt};
-use xpath_eval::eval;
+use xpath_eval::eval_with;
 use xpath_parser::Typed;
 use xpath_values::{Value, XNum, num_text};
 
@@ -116,11 +119,12 @@ pub fn select_rows<S: Axes>(
     source: &S,
     query: &Typed,
     rows: &[u32],
+    tests: &Tests,
     limits: Limits,
 ) -> Result<Vec<u32>, Stop>
     requires rows { AllBelow (length (S.document source.now)) rows.now }
     requires shape { is_nodes (shape_of (expression query.now)) ≡ true }
-    requires tests { AsksNone (expression query.now) }
+    requires asks { AsksOnly (known tests.now) (expression query.now) }
     ensures items { IfOk result (λ v. map node v.items ≡ step_items (S.document source.now) (select (expression query.now)) (map node rows.now)) }
     ensures below { IfOk result (λ v. AllBelow (length (S.document source.now)) v.items) }
     ensures few { IfOk result (λ v. length v.items ≤ limits.items) }
@@ -129,7 +133,7 @@ pub fn select_rows<S: Axes>(
 {
     let mut out = Vec::new(alloc);
     for x in rows {
-        let found = rows_of(eval(alloc, source, query, *x)?);
+        let found = rows_of(eval_with(alloc, source, query, *x, tests)?);
         append_rows(&mut out, &found, limits.items)?;
     }
     Ok(out)
@@ -141,11 +145,12 @@ pub fn select_texts<S: Axes>(
     source: &S,
     query: &Typed,
     rows: &[u32],
+    tests: &Tests,
     limits: Limits,
 ) -> Result<Vec<Txt>, Stop>
     requires rows { AllBelow (length (S.document source.now)) rows.now }
     requires shape { is_nodes (shape_of (expression query.now)) ≡ false }
-    requires tests { AsksNone (expression query.now) }
+    requires asks { AsksOnly (known tests.now) (expression query.now) }
     ensures items { IfOk result (λ v. map text v.items ≡ step_items (S.document source.now) (select (expression query.now)) (map node rows.now)) }
     ensures within { IfOk result (λ v. bytes_of v.items ≤ limits.bytes) }
     ensures over { IsErrOf result Stop.Output → limits.bytes < bytes_of (strings (step_items (S.document source.now) (select (expression query.now)) (map node rows.now))) }
@@ -154,7 +159,7 @@ pub fn select_texts<S: Axes>(
     let mut out = Vec::new(alloc);
     let mut left = limits.bytes;
     for x in rows {
-        let found = text_of(alloc, eval(alloc, source, query, *x)?)?;
+        let found = text_of(alloc, eval_with(alloc, source, query, *x, tests)?)?;
         let next = append_text(&mut out, found, left)?;
         left = next;
     }

@@ -3,16 +3,21 @@ ghost use Rattle.std.specs.Prelude.{◌≡◌, ◌≤◌, ◌<◌, [], ◌∷◌
 ghost use Rattle.std.specs.Str.{chars};
 ghost use Rattle.doc_model.specs.RowLists.{AllBelow};
 ghost use Rattle.regex.specs.Strings.{regex_source};
-ghost use Rattle.xpath_parser.specs.Asking.{AsksNone};
+ghost use Rattle.test_registry.specs.Kinds.{HasKind};
+ghost use Rattle.test_registry.specs.View.{known};
+ghost use Rattle.xpath_parser.specs.Asking.{AsksOnly};
 ghost use Rattle.xpath_parser.specs.Shapes.{shape_of, is_nodes};
 ghost use Rattle.xpath_parser.specs.Typed.{expression};
 ghost use Rattle.query_chain.specs.inner.Built.{IsBuilt};
 ghost use Rattle.query_chain.specs.Chains as spec;
 ghost use Rattle.query_chain.specs.Chains.{item_texts, step_items, step_passes, last_items, steps_pass, end_passes, taken_texts, answer};
 ghost use Rattle.query_chain.specs.Items.{node};
+ghost use Rattle.query_chain.specs.Tasks as task;
+ghost use Rattle.query_chain.specs.Tasks.{ActionAsks};
 ghost use Rattle.query_chain.specs.inner.Steps.{items_of, AreIn, action_of, IsUsable, IsFirst, IsStopOf};
 
 use crate::items::{Items, texts_of};
+use crate::keep::{keep_rows, keep_texts};
 use crate::limits::{Limits, Stop};
 use crate::ready_steps::ReadyStep;
 use crate::search::search_texts;
@@ -21,6 +26,7 @@ use doc_model::Axes;
 use query_script::{FieldValue, Take};
 use regex::Regex;
 use std::alloc::Global;
+use test_registry::{TestKind, Tests};
 use text_base::{Seq, Txt};
 use xpath_parser::Typed;
 use xpath_values::Shape;
@@ -41,22 +47,23 @@ fn select<S: Axes>(
     source: &S,
     query: &Typed,
     rows: &[u32],
+    tests: &Tests,
     limits: Limits,
 ) -> Result<Items, Stop>
     requires within { AllBelow (length (S.document source.now)) rows.now }
     requires few { length rows.now ≤ limits.items }
-    requires tests { AsksNone (expression query.now) }
-    ensures items { IfOk result (λ v. items_of v ≡ step_items (S.document source.now) (spec.select (expression query.now)) (map node rows.now)) }
-    ensures passes { IfOk result (λ v. step_passes limits (S.document source.now) (spec.select (expression query.now)) (map node rows.now) ≡ []) }
+    requires asks { AsksOnly (known tests.now) (expression query.now) }
+    ensures items { IfOk result (λ v. items_of v ≡ step_items (S.document source.now) (task.select (expression query.now)) (map node rows.now)) }
+    ensures passes { IfOk result (λ v. step_passes limits (S.document source.now) (task.select (expression query.now)) (map node rows.now) ≡ []) }
     ensures within { IfOk result (AreIn (S.document source.now)) }
     ensures few { IfOk result (λ v. length (items_of v) ≤ limits.items) }
-    ensures stop { IfErr result (λ s. IsFirst s (step_passes limits (S.document source.now) (spec.select (expression query.now)) (map node rows.now))) }
+    ensures stop { IfErr result (λ s. IsFirst s (step_passes limits (S.document source.now) (task.select (expression query.now)) (map node rows.now))) }
 {
     if gives_nodes(query) {
-        let found = select_rows(alloc, source, query, rows, limits)?;
+        let found = select_rows(alloc, source, query, rows, tests, limits)?;
         return Ok(Items::Rows(found));
     }
-    let found = select_texts(alloc, source, query, rows, limits)?;
+    let found = select_texts(alloc, source, query, rows, tests, limits)?;
     Ok(Items::Texts(found))
 }
 
@@ -66,19 +73,20 @@ fn select_items<S: Axes>(
     source: &S,
     query: &Typed,
     items: Items,
+    tests: &Tests,
     limits: Limits,
 ) -> Result<Items, Stop>
     requires within { AreIn (S.document source.now) items }
     requires few { length (items_of items) ≤ limits.items }
-    requires tests { AsksNone (expression query.now) }
-    ensures items { IfOk result (λ v. items_of v ≡ step_items (S.document source.now) (spec.select (expression query.now)) (items_of items)) }
-    ensures passes { IfOk result (λ v. step_passes limits (S.document source.now) (spec.select (expression query.now)) (items_of items) ≡ []) }
+    requires asks { AsksOnly (known tests.now) (expression query.now) }
+    ensures items { IfOk result (λ v. items_of v ≡ step_items (S.document source.now) (task.select (expression query.now)) (items_of items)) }
+    ensures passes { IfOk result (λ v. step_passes limits (S.document source.now) (task.select (expression query.now)) (items_of items) ≡ []) }
     ensures within { IfOk result (AreIn (S.document source.now)) }
     ensures few { IfOk result (λ v. length (items_of v) ≤ limits.items) }
-    ensures stop { IfErr result (λ s. IsFirst s (step_passes limits (S.document source.now) (spec.select (expression query.now)) (items_of items))) }
+    ensures stop { IfErr result (λ s. IsFirst s (step_passes limits (S.document source.now) (task.select (expression query.now)) (items_of items))) }
 {
     match items {
-        Items::Rows(rows) => select(alloc, source, query, rows.as_slice(), limits),
+        Items::Rows(rows) => select(alloc, source, query, rows.as_slice(), tests, limits),
         Items::Texts(_) => Ok(Items::Texts(Vec::new(alloc))),
     }
 }
@@ -93,15 +101,54 @@ fn search<S: Axes>(
 ) -> Result<Items, Stop>
     requires within { AreIn (S.document source.now) items }
     requires built { IsBuilt (chars (regex_source regex.now)) regex.now }
-    ensures items { IfOk result (λ v. items_of v ≡ step_items (S.document source.now) (spec.search (chars (regex_source regex.now))) (items_of items)) }
-    ensures passes { IfOk result (λ v. step_passes limits (S.document source.now) (spec.search (chars (regex_source regex.now))) (items_of items) ≡ []) }
+    ensures items { IfOk result (λ v. items_of v ≡ step_items (S.document source.now) (task.search (chars (regex_source regex.now))) (items_of items)) }
+    ensures passes { IfOk result (λ v. step_passes limits (S.document source.now) (task.search (chars (regex_source regex.now))) (items_of items) ≡ []) }
     ensures within { IfOk result (AreIn (S.document source.now)) }
     ensures few { IfOk result (λ v. length (items_of v) ≤ limits.items) }
-    ensures stop { IfErr result (λ s. IsFirst s (step_passes limits (S.document source.now) (spec.search (chars (regex_source regex.now))) (items_of items))) }
+    ensures stop { IfErr result (λ s. IsFirst s (step_passes limits (S.document source.now) (task.search (chars (regex_source regex.now))) (items_of items))) }
 {
     let texts = texts_of(alloc, source, items, limits.bytes)?;
     let found = search_texts(alloc, regex, texts.as_slice(), limits)?;
     Ok(Items::Texts(found))
+}
+
+/// The items whose texts meet the other text, as the stored test says. They stay what they are, rows or texts.
+fn keep<S: Axes>(
+    alloc: Global,
+    source: &S,
+    kind: TestKind,
+    other: &Txt,
+    items: Items,
+    tests: &Tests,
+    limits: Limits,
+) -> Result<Items, Stop>
+    requires stored { HasKind kind (known tests.now) }
+    requires within { AreIn (S.document source.now) items }
+    requires few { length (items_of items) ≤ limits.items }
+    ensures items { IfOk result (λ v. items_of v ≡ step_items (S.document source.now) (task.keep kind other.now) (items_of items)) }
+    ensures passes { IfOk result (λ v. step_passes limits (S.document source.now) (task.keep kind other.now) (items_of items) ≡ []) }
+    ensures within { IfOk result (AreIn (S.document source.now)) }
+    ensures few { IfOk result (λ v. length (items_of v) ≤ limits.items) }
+    ensures stop { IfErr result (λ s. IsFirst s (step_passes limits (S.document source.now) (task.keep kind other.now) (items_of items))) }
+{
+    match items {
+        Items::Rows(rows) => {
+            let kept = keep_rows(
+                alloc,
+                source,
+                rows.as_slice(),
+                kind,
+                other,
+                tests,
+                limits.bytes,
+            )?;
+            Ok(Items::Rows(kept))
+        }
+        Items::Texts(texts) => {
+            let kept = keep_texts(texts, kind, other, tests, limits.bytes)?;
+            Ok(Items::Texts(kept))
+        }
+    }
 }
 
 /// What a step gives.
@@ -110,9 +157,11 @@ fn give<S: Axes>(
     source: &S,
     step: &ReadyStep,
     items: Items,
+    tests: &Tests,
     limits: Limits,
 ) -> Result<Items, Stop>
     requires usable { IsUsable step.now }
+    requires asks { ActionAsks (known tests.now) (action_of step.now) }
     requires within { AreIn (S.document source.now) items }
     requires few { length (items_of items) ≤ limits.items }
     ensures items { IfOk result (λ v. items_of v ≡ step_items (S.document source.now) (action_of step.now) (items_of items)) }
@@ -122,8 +171,9 @@ fn give<S: Axes>(
     ensures stop { IfErr result (λ s. IsFirst s (step_passes limits (S.document source.now) (action_of step.now) (items_of items))) }
 {
     match step {
-        ReadyStep::Query(query) => select_items(alloc, source, query, items, limits),
+        ReadyStep::Query(query) => select_items(alloc, source, query, items, tests, limits),
         ReadyStep::Match(regex) => search(alloc, source, regex, items, limits),
+        ReadyStep::Keep(kind, other) => keep(alloc, source, *kind, other, items, tests, limits),
     }
 }
 
@@ -133,9 +183,11 @@ fn give_all<S: Axes>(
     source: &S,
     steps: &[ReadyStep],
     x: u32,
+    tests: &Tests,
     limits: Limits,
 ) -> Result<Items, Stop>
     requires usable { All IsUsable steps.now }
+    requires asks { All (λ step. ActionAsks (known tests.now) (action_of step)) steps.now }
     requires within { x < length (S.document source.now) }
     requires some { 0 < limits.items }
     ensures items { IfOk result (λ v. items_of v ≡ last_items (S.document source.now) (node x ∷ []) (map action_of steps.now)) }
@@ -147,7 +199,7 @@ fn give_all<S: Axes>(
     rows.push(x)?;
     let mut items = Items::Rows(rows);
     for step in steps {
-        let next = give(alloc, source, step, items, limits)?;
+        let next = give(alloc, source, step, items, tests, limits)?;
         items = next;
     }
     Ok(items)
@@ -189,15 +241,17 @@ pub fn run_steps<S: Axes>(
     steps: &[ReadyStep],
     end: Take,
     x: u32,
+    tests: &Tests,
     limits: Limits,
 ) -> Result<FieldValue, Stop>
     requires usable { All IsUsable steps.now }
+    requires asks { All (ActionAsks (known tests.now)) (map action_of steps.now) }
     requires within { x < length (S.document source.now) }
     requires some { 0 < limits.items }
     ensures value { IfOk result (λ v. v ≡ answer limits (S.document source.now) x (map action_of steps.now) end) }
     ensures stop { IfErr result (λ s. IsStopOf s (answer limits (S.document source.now) x (map action_of steps.now) end)) }
 {
-    let items = give_all(alloc, source, steps, x, limits)?;
+    let items = give_all(alloc, source, steps, x, tests, limits)?;
     let texts = given_texts(alloc, source, items, end, limits)?;
     Ok(value_of(texts, end))
 }

@@ -3,7 +3,6 @@ use Rattle.std.specs.Prelude.{◌≡◌, List, ◌∷◌, map, length}
 use Rattle.std.specs.Str.{chars}
 use Rattle.doc_model.specs.Document.{Document}
 use Rattle.doc_model.specs.RowLists.{AllBelow}
-use Rattle.xpath_parser.specs.Asking.{AsksNone}
 use Rattle.xpath_parser.specs.Typed.{expression}
 use Rattle.query_script.specs.declared.script.FieldValue.{FieldValue}
 use Rattle.query_script.specs.declared.script.FieldValue.TheVariants as value
@@ -17,7 +16,7 @@ use Rattle.query_chain.specs.declared.limits.Stop.TheVariants.{Selection, Output
 use Rattle.query_chain.specs.declared.ready_steps.ReadyStep.{ReadyStep}
 use Rattle.query_chain.specs.declared.ready_steps.ReadyStep.TheVariants as ready
 use Rattle.query_chain.specs.Items.{Item, node, text}
-use Rattle.query_chain.specs.Chains.{Action, select, search}
+use Rattle.query_chain.specs.Tasks.{Action, select, search, keep}
 use Rattle.query_chain.specs.inner.Built.{IsBuilt}
 
 abbrev pub items_of : Items → List Item
@@ -33,11 +32,13 @@ AreIn doc (Texts texts) = Unit {0}
 abbrev pub action_of : ReadyStep → Action
 action_of (ready.Query typed) = select (expression typed)
 action_of (ready.Match regex) = search (chars (regex_source regex))
+action_of (ready.Keep kind other) = keep kind other
 
--- a query calls no stored test, and a pattern is built
+-- a pattern is built
 abbrev pub IsUsable : ReadyStep → Type 0
-IsUsable (ready.Query typed) = AsksNone (expression typed)
+IsUsable (ready.Query typed) = Unit {0}
 IsUsable (ready.Match regex) = IsBuilt (chars (regex_source regex)) regex
+IsUsable (ready.Keep kind other) = Unit {0}
 
 -- why it was stopped, which is the first of the limits that are passed
 abbrev pub IsFirst : Stop → List Reason → Type 0

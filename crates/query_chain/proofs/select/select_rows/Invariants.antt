@@ -1,7 +1,8 @@
 use Rattle.std.proofs.Common.{◌≡◌, ◌<◌, ◌≤◌, map, length, take}
 use Rattle.std.specs.List.{All}
 use Rattle.xpath_parser.specs.Typed.{expression}
-use Rattle.query_chain.specs.Chains.{select, step_items}
+use Rattle.query_chain.specs.Chains.{step_items}
+use Rattle.query_chain.specs.Tasks.{select}
 use Rattle.query_chain.specs.Items.{node}
 use Rattle.query_chain.proofs.select.select_rows.Given as goal
 

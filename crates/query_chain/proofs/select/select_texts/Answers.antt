@@ -3,7 +3,8 @@ use Rattle.std.proofs.lemmas.Result.{err_from_is_err_and}
 use Rattle.std.proofs.lemmas.List.{map-append}
 use Rattle.std.proofs.lemmas.List.Sums.{sum_by_push}
 use Rattle.xpath_parser.specs.Typed.{expression}
-use Rattle.query_chain.specs.Chains.{select, value_items}
+use Rattle.query_chain.specs.Chains.{value_items}
+use Rattle.query_chain.specs.Tasks.{select}
 use Rattle.query_chain.specs.Items.{text, bytes_of}
 use Rattle.query_chain.specs.inner.Values.{is_rows}
 use Rattle.query_chain.proofs.Errors.{moved}
@@ -12,7 +13,7 @@ use Rattle.query_chain.proofs.Shapes.{typed_rows}
 use Rattle.query_chain.proofs.select.select_texts.Goals as goal
 
 pub text_of-requires : goal.text_of-requires
-text_of-requires g c = ap is_rows c.in_ok-eval.ensures.value ∙ (typed_rows (g.S.Tree.document c.args.source.now) c.args.query.now _ ∙ c.requires.shape)
+text_of-requires g c = ap is_rows c.in_ok-eval_with.ensures.value ∙ (typed_rows (g.S.Tree.document c.args.source.now) c.args.query.now _ ∙ c.requires.shape)
 
 pub loop-x-preserved : goal.loop-x-preserved
 loop-x-preserved g c =
@@ -24,7 +25,7 @@ loop-x-preserved g c =
     record {
       items = (ap (map text) c.in_ok-next.ensures.items ∙ map-append text old (found ∷ []))
           ∙ row_more doc (select (expression c.args.query.now)) c.args.rows.now c.loop-x.x-index (map text old) (text found ∷ []) c.loop-x-test.true i.items
-          (ap value_items (sym c.in_ok-eval.ensures.value) ∙ c.in_ok-found.ensures);
+          (ap value_items (sym c.in_ok-eval_with.ensures.value) ∙ c.in_ok-found.ensures);
       left = let n = c.in_ok-next.ensures.left in let s = i.left in omega (arith, size, n, s);
     }
 
@@ -33,7 +34,7 @@ returns-in_err-next-clause-over g c =
     let p = err_from_is_err_and c.from_residual-in_err-next.result c.from_residual-in_err-next.ensures.1 in
     rw (p.1, p.2) (λ e.
     texts_over (g.S.Tree.document c.args.source.now) (select (expression c.args.query.now)) c.args.rows.now c.loop-x.x-index c.loop-x.left c.args.limits.bytes c.loop-x.out.items c.in_ok-found.found
-    c.loop-x-test.true c.loop-x.invariant.items (ap value_items (sym c.in_ok-eval.ensures.value) ∙ c.in_ok-found.ensures) c.loop-x.invariant.left (c.in_err-next.ensures.over (moved _ _ e)))
+    c.loop-x-test.true c.loop-x.invariant.items (ap value_items (sym c.in_ok-eval_with.ensures.value) ∙ c.in_ok-found.ensures) c.loop-x.invariant.left (c.in_err-next.ensures.over (moved _ _ e)))
 
 pub returns-clause-items : goal.returns-clause-items
 returns-clause-items g c =

@@ -1,6 +1,7 @@
 use Rattle.std.proofs.Common.{◌≡◌, ◌+◌, map, take}
 use Rattle.xpath_parser.specs.Typed.{expression}
-use Rattle.query_chain.specs.Chains.{select, step_items}
+use Rattle.query_chain.specs.Chains.{step_items}
+use Rattle.query_chain.specs.Tasks.{select}
 use Rattle.query_chain.specs.Items.{node, text, bytes_of}
 use Rattle.query_chain.proofs.select.select_texts.Given as goal
 

@@ -11,3 +11,9 @@ returns-in-Match-clause-passes g c = rw c.in-Match.is c.search.ensures.passes
 
 pub returns-in-Match-clause-stop : goal.returns-in-Match-clause-stop
 returns-in-Match-clause-stop g c = rw c.in-Match.is c.search.ensures.stop
+
+pub returns-in-Keep-clause-passes : goal.returns-in-Keep-clause-passes
+returns-in-Keep-clause-passes g c = rw c.in-Keep.is c.keep.ensures.passes
+
+pub returns-in-Keep-clause-stop : goal.returns-in-Keep-clause-stop
+returns-in-Keep-clause-stop g c = rw c.in-Keep.is c.keep.ensures.stop

@@ -1,8 +1,14 @@
 use Rattle.std.proofs.Common.{◌∙◌, map}
 use Rattle.std.proofs.lemmas.Result.{err_from_is_err_and}
+use Rattle.test_registry.specs.View.{known}
+use Rattle.query_chain.specs.Tasks.{ActionAsks}
 use Rattle.query_chain.specs.inner.Steps.{items_of, action_of}
+use Rattle.query_chain.proofs.Lists.{all_mapped}
 use Rattle.query_chain.proofs.Stepping.{answered, stopped_early, stopped_late}
 use Rattle.query_chain.proofs.steps.run_steps.Goals as goal
+
+pub give_all-requires-clause-asks : goal.give_all-requires-clause-asks
+give_all-requires-clause-asks g c = all_mapped (ActionAsks (known c.args.tests.now)) action_of c.args.steps.now c.requires.asks
 
 pub returns-clause-value : goal.returns-clause-value
 returns-clause-value g c =
