@@ -1,6 +1,7 @@
 pub mod Boundaries
 pub mod ByteParts
 pub mod CharacterLemmas
+pub mod DecodedTexts
 pub mod Lists
 pub mod NewlineLemmas
 pub mod NewlinePlaces

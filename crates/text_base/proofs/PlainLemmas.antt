@@ -27,7 +27,7 @@ no_cr after_cr (b ∷ bs) k = at (λ a j. no_cr a bs j) (b == 13) refl
     at later true e = front_no_cr 10 (newlines_after true bs) k refl (later true)
     at later false e = other later (after_cr && b == 10) e
 
-no_longer : (after_cr : Bool) (bytes : List ℕ) → length (newlines_after after_cr bytes) ≤ length bytes
+pub no_longer : (after_cr : Bool) (bytes : List ℕ) → length (newlines_after after_cr bytes) ≤ length bytes
 no_longer after_cr [] = omega arith
 no_longer after_cr (b ∷ bs) = at (no_longer true bs) (no_longer false bs) (b == 13) (after_cr && b == 10)
   where

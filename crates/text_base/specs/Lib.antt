@@ -1,4 +1,5 @@
 pub mod Decoding
+pub mod DecodingLaws
 pub mod Kinds
 pub mod Limits
 pub mod Names

@@ -7,6 +7,7 @@ mod containing;
 mod decoding;
 mod finding;
 mod kinds;
+mod laws;
 mod letters;
 mod limits;
 mod memory;
@@ -23,6 +24,7 @@ pub use kinds::{
     ByteKind, NotSpace4, Space4, Space5, is_digit, is_letter, is_name_byte, is_name_start,
     is_white, run_end,
 };
+pub use laws::decoded_texts;
 pub use letters::{is_space4, is_space5, lower_ascii};
 pub use limits::PAGE_LIMIT;
 pub use memory::NoMemory;
