@@ -109,7 +109,7 @@ raw_element (then_leaf (comment s) rest) page name k j z ts ok low raw letters h
 raw_element (then_leaf doctype rest) page name k j z ts ok low raw letters h front more = absurd h
 raw_element (then_element tag inside inserted rest) page name k j z ts ok low raw letters h front more = absurd h
 
--- The tokens of what is written are those of the marks. Behind it the page goes on, after a token that begins no raw text.
+-- The tokens of what is written are those of the marks. After it the page goes on, after a token that begins no raw text.
 pub ink_spelled : (f : Forest) (before p page : List ℕ) (i j : ℕ) (y : List ℕ) (ts : List Tok) → is_literal before ≡ false → is_raw p ≡ false → takes_newline p ≡ takes_newline before → IsInk f → IsNext y → drop i page ≡ ink before f ++ y
     → ((q : List ℕ) → is_raw q ≡ false → Spelled page q (i + length (ink before f)) j ts) → Spelled page p i j (tokens_of (marks f) ++ ts)
 ink_spelled nothing before p page i j y ts lit raw takes h next front more = subst (λ k. Spelled page p k j ts) (let e : i + 0 ≡ i = omega arith in e) (more p raw)

@@ -193,7 +193,7 @@ impl<T: Tree> Indexed<T> {
     }
 
     /// How many elements stand after an element among its siblings.
-    fn children_behind(&self, x: u32) -> u32
+    fn children_after(&self, x: u32) -> u32
         requires row { x < length (T.document self.now.tree) }
         requires element { is_element (T.document self.now.tree) x ≡ true }
         ensures { children_before (T.document self.now.tree) (is_element (T.document self.now.tree)) (row (T.document self.now.tree) x).parent (length (T.document self.now.tree))
@@ -205,7 +205,7 @@ impl<T: Tree> Indexed<T> {
     }
 
     /// How many elements of its name stand after an element among its siblings.
-    fn alike_behind(&self, x: u32) -> u32
+    fn alike_after(&self, x: u32) -> u32
         requires row { x < length (T.document self.now.tree) }
         requires element { is_element (T.document self.now.tree) x ≡ true }
         ensures { let doc = T.document self.now.tree in
@@ -224,7 +224,7 @@ impl<T: Tree> Indexed<T> {
         if is_named(&self.tree, x, name) {
             match axis {
                 Axis::PrecedingSibling => return self.alike.before(x),
-                Axis::FollowingSibling => return self.alike_behind(x),
+                Axis::FollowingSibling => return self.alike_after(x),
                 _ => {}
             }
         }
@@ -332,7 +332,7 @@ impl<T: Tree> Axes for Indexed<T> {
             if is_element(&self.tree, x) {
                 match axis {
                     Axis::PrecedingSibling => return self.children.before(x),
-                    Axis::FollowingSibling => return self.children_behind(x),
+                    Axis::FollowingSibling => return self.children_after(x),
                     _ => {}
                 }
             }

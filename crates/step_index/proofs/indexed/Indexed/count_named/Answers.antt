@@ -16,4 +16,4 @@ pub returns-in-FollowingSibling : goal.returns-in-FollowingSibling
 returns-in-FollowingSibling g c =
     let doc = g.T.Tree.document c.args.self.now.tree in
     let own = sym c.is_named.ensures ∙ c.if-is_named.true in
-    siblings.named_following doc c.args.x c.args.axis c.args.test.now (chars c.args.name.now) c.alike_behind.result (g.met.T.Tree.is_document c.args.self.now.tree) c.requires.row own c.in-FollowingSibling.is c.requires.named c.alike_behind.ensures
+    siblings.named_following doc c.args.x c.args.axis c.args.test.now (chars c.args.name.now) c.alike_after.result (g.met.T.Tree.is_document c.args.self.now.tree) c.requires.row own c.in-FollowingSibling.is c.requires.named c.alike_after.ensures

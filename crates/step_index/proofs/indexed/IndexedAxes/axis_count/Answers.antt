@@ -10,5 +10,5 @@ returns-in-PrecedingSibling g c =
 
 pub returns-in-FollowingSibling : goal.returns-in-FollowingSibling
 returns-in-FollowingSibling g c =
-    siblings.any_following (g.T.Tree.document c.args.self.now.tree) c.args.x c.args.axis c.args.test.now c.children_behind.result (g.met.T.Tree.is_document c.args.self.now.tree) c.requires
-    (sym c.is_element.ensures ∙ c.if-is_element.true) c.in-FollowingSibling.is c.in-AnyName.is c.children_behind.ensures
+    siblings.any_following (g.T.Tree.document c.args.self.now.tree) c.args.x c.args.axis c.args.test.now c.children_after.result (g.met.T.Tree.is_document c.args.self.now.tree) c.requires
+    (sym c.is_element.ensures ∙ c.if-is_element.true) c.in-FollowingSibling.is c.in-AnyName.is c.children_after.ensures

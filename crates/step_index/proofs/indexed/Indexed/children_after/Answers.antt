@@ -1,6 +1,6 @@
 use Rattle.std.proofs.Common.{arith}
 use Rattle.step_index.proofs.Counted as counted
-use Rattle.step_index.proofs.indexed.Indexed.children_behind.Goals as goal
+use Rattle.step_index.proofs.indexed.Indexed.children_after.Goals as goal
 
 pub overflow_sub-result : goal.overflow_sub-result
 overflow_sub-result g c =

@@ -1,5 +1,5 @@
 use Rattle.step_index.proofs.Tallied as tallied
-use Rattle.step_index.proofs.indexed.Indexed.alike_behind.Goals as goal
+use Rattle.step_index.proofs.indexed.Indexed.alike_after.Goals as goal
 
 pub returns : goal.returns
 returns g c =
