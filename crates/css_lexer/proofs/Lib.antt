@@ -3,6 +3,8 @@ pub mod ContentLemmas
 pub mod EscapeLemmas
 pub mod Lexing
 pub mod SpellLemmas
+pub mod SpelledTokens
+pub mod SpelledUnits
 pub mod TokenLemmas
 pub mod TokenPlaces
 pub mod TokenTexts

@@ -1,19 +1,17 @@
 -- Where a text is UTF-8, the value of each of its tokens is a text.
-use Rattle.std.proofs.Common.{◌≡◌, ℕ, ◌+◌, ◌-◌, ◌<◌, ◌≤◌, Bool, true, false, cond, List, [], ◌∷◌, ◌++◌, length, get_or, take, drop, flat_map, IsUtf8, refl, sym, ◌∙◌, ap, subst, arith, inr, leb, ltb, leb-false, eqb-true, get_or-drop, get_or-take}
+use Rattle.std.proofs.Common.{◌≡◌, ℕ, ◌+◌, ◌-◌, ◌<◌, Bool, true, false, cond, List, [], ◌∷◌, length, get_or, take, drop, flat_map, IsUtf8, refl, sym, ◌∙◌, ap, subst, arith, inr, leb, ltb, leb-false, eqb-true, get_or-drop, get_or-take}
 use borrow.Author.Tests.{ltb-true}
 use lib.Utf8.{scalar, scalars, low_scalar}
-use Rattle.std.specs.Prelude.{◌==◌, ◌||◌, ◌&&◌, Option, Some, None, All, slice_range, encode_utf8}
+use Rattle.std.specs.Prelude.{◌==◌, ◌&&◌, Option, Some, None, All, slice_range, encode_utf8}
 use Rattle.std.specs.Str.{chars}
-use Rattle.std.proofs.lemmas.Bool.{cases_lt}
 use Rattle.std.proofs.lemmas.Bool.Decides.{nat_tests}
 use Rattle.std.proofs.lemmas.List.Elements.{All-nil, All-cons}
 use Rattle.std.proofs.lemmas.Slice.Eq.{bytes_eq-Decides}
 use Rattle.std.proofs.lemmas.Str.{IsUtf8-nil, IsUtf8-append, IsUtf8-between, IsUtf8-encode, encode_ascii, scalars-chars}
-use Rattle.text_base.specs.Kinds.{space5_narrow}
-use Rattle.text_base.specs.Text.{run_end, begins_with, is_digit, is_space5, IsPlace, IsWide, IsNarrow}
+use Rattle.text_base.specs.Text.{run_end, begins_with, is_digit, is_space5, IsPlace, IsNarrow}
 use Rattle.text_base.proofs.Boundaries.{at_start, boundary, in_text, past_byte, run_end_place}
 use Rattle.text_base.proofs.Places.{find_in}
-use Rattle.text_base.proofs.Runs.{run_end_le, run_end_from}
+use Rattle.text_base.proofs.Runs.{run_end_from}
 use Rattle.css_lexer.specs.declared.contents.Content.{Content}
 use Rattle.css_lexer.specs.declared.contents.Content.TheVariants as content
 use Rattle.css_lexer.specs.declared.rules.Rule.{Rule}
@@ -25,8 +23,8 @@ use Rattle.css_lexer.specs.Steps.{Steps}
 use Rattle.css_lexer.specs.Comments.{opens_comment, closing_at, comment_len}
 use Rattle.css_lexer.specs.Contents.{is_plain, lost_len, slashed_len, slashed_value, unit_len, unit_value, Reads}
 use Rattle.css_lexer.specs.Escapes.{is_hex, hex_len, hex_value, char_of, is_escapable, escape_len, escape_value}
-use Rattle.css_lexer.specs.Tokens.{token, starts_ident, kind_of_two, kind_of_one, short_token, symbol_at, rule_at, NameAt, HashAt, QuotedAt, ReadsBy, TokenAt, Spell, Lexes}
-use Rattle.css_lexer.specs.inner.Kinds.{plain_wide, digit_narrow}
+use Rattle.css_lexer.specs.Tokens.{token, starts_ident, kind_of_two, kind_of_one, short_token, symbol_at, NameAt, HashAt, QuotedAt, ReadsBy, TokenAt, Spell, Lexes}
+use Rattle.css_lexer.specs.inner.Kinds.{plain_wide}
 use Rattle.css_lexer.proofs.CommentLemmas.{opening_fits}
 use Rattle.css_lexer.proofs.ContentLemmas.{lost_place}
 use Rattle.css_lexer.proofs.EscapeLemmas.{cases_if, both_true, escape_place}

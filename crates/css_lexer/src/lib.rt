@@ -8,6 +8,6 @@ mod lexer;
 mod rules;
 mod tokens;
 
-pub use laws::one_list_or_fault;
+pub use laws::{one_list_or_fault, plain_texts_are_read_back};
 pub use lexer::{SELECTOR_LIMIT, css_tokens};
 pub use tokens::{CssKind, CssToken};
