@@ -16,6 +16,7 @@ use Rattle.css_selectors.specs.declared.selector.Test.{Test}
 use Rattle.css_selectors.specs.declared.selector.Test.TheOpen as test_open
 use Rattle.css_selectors.specs.declared.selector.Test.TheViews as test_views
 use Rattle.css_selectors.specs.Sizes.{part_size, relative_size}
+use Rattle.css_selectors.specs.WellMade.{FitsPart, FitsSimple}
 use Rattle.css_selectors.proofs.Equations.{size_of_relative}
 use Rattle.css_parser.specs.declared.pieces.Word.{Word}
 use Rattle.css_parser.specs.declared.pieces.Word.TheVariants as word
@@ -49,7 +50,7 @@ use Rattle.css_parser.proofs.ValueFits.{Around, Fit, IsFit, IsRelative, Lone, Gi
 
 -- a part of a relative
 abbrev IsLinked : ℕ → Bool → Part → Type 0
-IsLinked n inside p = ((out-Part p).link ≢ link.First) × All (Fit n inside (out-Part p).element) (out-Part p).simples
+IsLinked n inside p = FitsPart (FitsSimple n inside) p
 
 linked_part : (n : ℕ) (inside : Bool) (l : Link) (x : Inner) → (out-Inner x).link ≡ l → l ≢ link.First → All (Fit n inside (out-Part (part_of x)).element) (out-Part (part_of x)).simples → IsLinked n inside (part_of x)
 linked_part n inside l x is other h = (λ e. other (sym is ∙ sym (part_link x) ∙ e), h)

@@ -22,7 +22,7 @@ use Rattle.css_selectors.proofs.WordsAt as words_at
 use Rattle.css_meaning.specs.Names.{folded}
 use Rattle.css_meaning.specs.Attributes.{has_value, attribute_holds}
 use Rattle.css_meaning.specs.Limits.{Countable, NoFormFeed}
-use Rattle.css_selectors.specs.WellMade.{FitsTest, FitsRelative, FitsSimple, FitsPseudo, Nowhere, innermost, IsPart, IsSelector, WellMade}
+use Rattle.css_selectors.specs.WellMade.{FitsTest, FitsPart, FitsRelative, FitsSimple, FitsPseudo, Nowhere, innermost, IsPart, IsSelector, WellMade}
 use Rattle.css_meaning.specs.Holding.{test_holds, compound_holds, relative_holds, simple_holds}
 use Rattle.css_meaning.specs.Names.{has_name}
 use Rattle.css_meaning.specs.Simples.{pseudo_holds}
@@ -48,7 +48,7 @@ use Rattle.xpath_parser.specs.declared.expression.Expr.{Expr}
 use Rattle.css_printed.specs.inner.Predicates.{attribute, plain_attribute, elements, equals, literal, not_one, op_predicate, pseudo_predicates}
 use Rattle.css_printed.specs.inner.TestPredicates as q
 use Rattle.css_printed.specs.inner.TestPredicates.{Asked, test_asked, compound_expression, relative_expression}
-use Rattle.css_printed.proofs.PrintedAt.{Layer, FitsPart, asked_layer, asked_at, asked_at_simple, asked_at_any}
+use Rattle.css_printed.proofs.PrintedAt.{Layer, asked_layer, asked_at, asked_at_simple, asked_at_any}
 use Rattle.css_printed.proofs.MeansChoices.{SimpleKeeps, simples_keep, Tells, keep_tells, keep_not, tells_choice, compound_tells}
 use Rattle.css_printed.proofs.PathsKept.{Keep, keep_same}
 use Rattle.css_printed.proofs.MeansNames.{at_attribute, at_plain_attribute}

@@ -1,13 +1,12 @@
 -- The texts, the terms and the predicates of simple selectors and relatives, one level at a time.
 use Rattle.std.proofs.Common.{◌≡◌, sym, ◌∙◌, ap, ℕ, ℤ, cond, List, [], ◌∷◌, ◌++◌, map, Option, codes}
-use Rattle.std.specs.Prelude.{◌≢◌, All, encode_utf8_all}
+use Rattle.std.specs.Prelude.{encode_utf8_all}
 use Rattle.std.specs.List.{flat_map}
 use Rattle.std.proofs.lemmas.List.Folds.{flat_map-map}
 use mathlib.Core.List.{map-map}
 use Rattle.doc_model.specs.declared.Axis.TheVariants as axis
 use Rattle.css_selectors.specs.declared.selector.Compound.{Compound, out-Compound}
 use Rattle.css_selectors.specs.declared.selector.Dialect.{Dialect}
-use Rattle.css_selectors.specs.declared.selector.Link.TheVariants as link
 use Rattle.css_selectors.specs.declared.selector.Nth.{Nth}
 use Rattle.css_selectors.specs.declared.selector.Op.{Op}
 use Rattle.css_selectors.specs.declared.selector.Op.TheVariants as op
@@ -44,10 +43,6 @@ use Rattle.css_printed.proofs.TemplateTerms.{test_terms, compound_terms, relativ
 -- a test, opened
 abbrev pub Layer : Type 0
 Layer = open_.Test-F Test Compound Part Relative Simple
-
--- what is asked of each part of a relative, where Fits is asked of its simples with its element around them
-abbrev pub FitsPart : (Option (List ℕ) → Simple → Type 0) → Part → Type 0
-FitsPart Fits p = ((out-Part p).link ≢ link.First) × All (Fits (out-Part p).element) (out-Part p).simples
 
 module _ (d : Dialect) where
   -- ---- texts

@@ -16,7 +16,7 @@ use Rattle.css_selectors.specs.declared.selector.Simple.{Simple}
 use Rattle.css_selectors.specs.declared.selector.Test.{Test, out-Test, roll-Test}
 use Rattle.css_selectors.specs.declared.selector.Test.TheOpen as open_
 use Rattle.css_selectors.specs.declared.selector.Test.TheViews as views
-use Rattle.css_selectors.specs.WellMade.{FitsTest, FitsRelative, FitsSimple, Nowhere, innermost, IsPart}
+use Rattle.css_selectors.specs.WellMade.{FitsTest, FitsPart, FitsRelative, FitsSimple, Nowhere, innermost, IsPart}
 use Rattle.xpath_parser.specs.declared.expression.Expr.{Expr}
 use Rattle.xpath_parser.specs.declared.expression.Expr.TheVariants as e
 use Rattle.xpath_parser.specs.declared.expression.Func.TheVariants as f
@@ -29,7 +29,7 @@ use Rattle.xpath_parser.specs.Grammar.{Reads, Operands}
 use Rattle.css_printed.specs.inner.Predicates as x
 use Rattle.css_printed.specs.inner.TestPredicates as q
 use Rattle.css_printed.specs.inner.TestPredicates.{Asked, test_asked, compound_expression, step_of, relative_expression, simple_predicates}
-use Rattle.css_printed.proofs.PrintedAt.{Layer, FitsPart, terms_layer, terms_at, terms_at_simple, terms_at_compound, terms_at_first, terms_at_part, terms_at_relative, terms_at_any, asked_layer, asked_at, asked_at_simple, asked_at_compound, asked_at_part, asked_at_relative, asked_at_any}
+use Rattle.css_printed.proofs.PrintedAt.{Layer, terms_layer, terms_at, terms_at_simple, terms_at_compound, terms_at_first, terms_at_part, terms_at_relative, terms_at_any, asked_layer, asked_at, asked_at_simple, asked_at_compound, asked_at_part, asked_at_relative, asked_at_any}
 use Rattle.css_printed.proofs.Readings.{up, to_2, to_5, to_8, whole}
 use Rattle.css_printed.proofs.ReadsPieces.{to_7, Brackets, no_brackets, bracket, join, any_tested, with, axis_step, single, equal, number_reads, literal_reads, call_one, call_two, call_three}
 use Rattle.css_printed.proofs.ReadsLinks.{first_reads, link_reads}

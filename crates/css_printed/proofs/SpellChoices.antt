@@ -19,7 +19,7 @@ use Rattle.css_selectors.specs.declared.selector.Test.{Test, out-Test, roll-Test
 use Rattle.css_selectors.specs.declared.selector.Test.TheOpen as open_
 use Rattle.css_selectors.specs.declared.selector.Test.TheViews as views
 use Rattle.css_selectors.specs.Texts.{test_texts, compound_texts, part_texts, relative_texts, simple_texts}
-use Rattle.css_selectors.specs.WellMade.{FitsTest, FitsRelative, FitsSimple, Nowhere, innermost, IsPart}
+use Rattle.css_selectors.specs.WellMade.{FitsTest, FitsPart, FitsRelative, FitsSimple, Nowhere, innermost, IsPart}
 use Rattle.css_selectors.proofs.TextsAt as texts_at
 use Rattle.std.proofs.lemmas.List.Folds.{flat_map-map, list_all-map}
 use Rattle.xpath_lexer.specs.Tokens.{Text}
@@ -33,7 +33,7 @@ use Rattle.css_printed.specs.Names.{element_text, attribute_text}
 use Rattle.css_printed.specs.Printed.{part_text, parts_text}
 use Rattle.css_printed.specs.TestTexts as s
 use Rattle.css_printed.specs.TestTexts.{Said, Steps, test_said, compound_text, part_steps, relative_text, simple_text}
-use Rattle.css_printed.proofs.PrintedAt.{Layer, FitsPart, text_layer, text_at, text_at_simple, text_at_compound, text_at_first, text_at_part, text_at_relative, text_at_any, terms_layer, terms_at, terms_at_simple, terms_at_compound, terms_at_first, terms_at_part, terms_at_relative, terms_at_any}
+use Rattle.css_printed.proofs.PrintedAt.{Layer, text_layer, text_at, text_at_simple, text_at_compound, text_at_first, text_at_part, text_at_relative, text_at_any, terms_layer, terms_at, terms_at_simple, terms_at_compound, terms_at_first, terms_at_part, terms_at_relative, terms_at_any}
 use Rattle.css_printed.proofs.SpellConditions.{nth_puts}
 use Rattle.css_printed.proofs.SpellFixed.{Puts, Piece, ◌⨾◌, fix, said, then_puts, nothing_puts, choose_puts}
 use Rattle.css_printed.proofs.SpellLinks.{first_puts, further_puts}

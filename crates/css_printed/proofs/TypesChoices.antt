@@ -16,7 +16,7 @@ use Rattle.css_selectors.specs.declared.selector.Simple.{Simple}
 use Rattle.css_selectors.specs.declared.selector.Test.{Test, out-Test, roll-Test}
 use Rattle.css_selectors.specs.declared.selector.Test.TheOpen as open_
 use Rattle.css_selectors.specs.declared.selector.Test.TheViews as views
-use Rattle.css_selectors.specs.WellMade.{FitsTest, FitsRelative, FitsSimple, Nowhere, innermost, IsPart}
+use Rattle.css_selectors.specs.WellMade.{FitsTest, FitsPart, FitsRelative, FitsSimple, Nowhere, innermost, IsPart}
 use Rattle.xpath_values.specs.declared.value.Shape.{Shape}
 use Rattle.xpath_values.specs.declared.value.Shape.TheVariants as shape
 use Rattle.xpath_parser.specs.declared.expression.Expr.{Expr}
@@ -27,7 +27,7 @@ use Rattle.css_printed.specs.inner.Predicates as x
 use Rattle.css_printed.specs.inner.Predicates.{node_test}
 use Rattle.css_printed.specs.inner.TestPredicates as q
 use Rattle.css_printed.specs.inner.TestPredicates.{Asked, test_asked, compound_expression, step_of, relative_expression, simple_predicates}
-use Rattle.css_printed.proofs.PrintedAt.{Layer, FitsPart, asked_layer, asked_at, asked_at_simple, asked_at_compound, asked_at_part, asked_at_relative, asked_at_any}
+use Rattle.css_printed.proofs.PrintedAt.{Layer, asked_layer, asked_at, asked_at_simple, asked_at_compound, asked_at_part, asked_at_relative, asked_at_any}
 use Rattle.css_printed.proofs.Typed.{step_right, path_typing}
 use Rattle.css_printed.proofs.TypesPieces.{Typed, AllRight, number_typed, call_two, no_expression, front, one, join, or_typed, step_typed, path_typed}
 use Rattle.css_printed.proofs.TypesTests.{text_typed, name_right, elements_typed, attribute_typed, plain_attribute_typed, equals_typed, op_right, nth_right, not_typed, pseudo_right, lang_right}

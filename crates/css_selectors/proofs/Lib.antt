@@ -1,4 +1,5 @@
 pub mod Bounds
+pub mod Decimals
 pub mod Equations
 pub mod Made
 pub mod Mapped

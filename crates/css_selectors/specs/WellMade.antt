@@ -58,11 +58,14 @@ abbrev pub innermost : Option (List ℕ) → Option (List ℕ) → Option (List 
 innermost around None = around
 innermost around (Some n) = Some n
 
--- What is asked of a relative, where Fits is asked of each simple with the element of its own part around it: there is a part, and
--- each is joined by a combinator to what stands before it.
+-- What is asked of a part of a relative, where Fits is asked of each simple with the element of its own part around it: it is
+-- joined by a combinator to what stands before it.
+abbrev pub FitsPart : (Option (List ℕ) → Simple → Type 0) → Part → Type 0
+FitsPart Fits p = ((out-Part p).link ≢ link.First) × All (Fits (out-Part p).element) (out-Part p).simples
+
+-- and of a relative: there is a part
 abbrev pub FitsRelative : (Option (List ℕ) → Simple → Type 0) → Relative → Type 0
-FitsRelative Fits r =
-    (0 < length (out-Relative r).parts) × All (λ p. ((out-Part p).link ≢ link.First) × All (Fits (out-Part p).element) (out-Part p).simples) (out-Relative r).parts
+FitsRelative Fits r = (0 < length (out-Relative r).parts) × All (FitsPart Fits) (out-Relative r).parts
 
 -- What is asked of a test, where a choice may still be opened or not, inside a `Has` or not, with that name around it,
 -- negated or not. A `Has` stands in no other, and no name around it counts inside. Fits says of a simple what is asked of it one
