@@ -8,6 +8,9 @@ pub mod KeptLemmas
 pub mod ListLemmas
 pub mod MoreLemmas
 pub mod OneStep
+pub mod OrderedLemmas
+pub mod PrintedPieces
+pub mod PrintedUtf8
 pub mod QueryLemmas
 pub mod Reasons
 pub mod SplitLemmas
@@ -17,3 +20,4 @@ pub mod StoredLemmas
 pub mod StringLemmas
 pub mod TrimLemmas
 pub mod Unique
+pub mod Utf8Lemmas

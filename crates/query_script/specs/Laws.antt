@@ -1,6 +1,7 @@
 -- What holds of all scripts.
 use Rattle.std.specs.Prelude.{◌≡◌, ◌⊎◌, ℕ, List}
 use Rattle.std.specs.List.{AllByRecursion}
+use Rattle.std.specs.Str.{IsUtf8}
 use Rattle.text_base.specs.declared.reasons.ScriptFault.{ScriptFault}
 use Rattle.test_registry.specs.Names.{Known}
 use Rattle.css_selectors.specs.declared.selector.Dialect.{Dialect}
@@ -11,7 +12,7 @@ use Rattle.query_script.specs.declared.script.Reason.{Reason}
 use Rattle.query_script.specs.declared.script.Take.{Take}
 use Rattle.query_script.specs.declared.steps.RawStep.{RawStep}
 use Rattle.query_script.specs.Fields.{IsField, IsFieldOver, IsFieldReason, IsScriptOver, IsScriptFault}
-use Rattle.query_script.specs.Ordered.{KeepsStored}
+use Rattle.query_script.specs.Ordered.{IsOrderedOver, KeepsStored}
 use Rattle.query_script.specs.Steps.{AreStepsText}
 
 -- in a dialect, and where these tests are stored, a text reads as one list of fields at most
@@ -42,6 +43,10 @@ abbrev pub ReadsMore : Type 0
 ReadsMore =
     (tests : Known) (d : Dialect) (piece : List ℕ) (field : Field) (kept : List ChainStep) (take : Take)
     → IsField d piece field → field.chain ≡ chain.Steps kept take → IsFieldOver tests d piece field
+
+-- the queries of a script that is UTF-8 can be run one after the other
+abbrev pub QueriesRun : Type 0
+QueriesRun = (tests : Known) (d : Dialect) (text : List ℕ) (fields : List Field) → IsUtf8 text → IsScriptOver tests d text fields → AllByRecursion (IsOrderedOver tests) fields
 
 -- the tests that a script keeps items by are stored
 abbrev pub TestsStored : Type 0

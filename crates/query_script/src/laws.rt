@@ -1,5 +1,5 @@
 //! Laws of the definitions that the contracts cite.
-ghost use Rattle.query_script.specs.Laws.{HasFieldReason, HasOneCut, HasOneFault, HasOneReading, IsReadOrRefused, HasReading, ReadsMore, TestsStored};
+ghost use Rattle.query_script.specs.Laws.{HasFieldReason, HasOneCut, HasOneFault, HasOneReading, IsReadOrRefused, HasReading, QueriesRun, ReadsMore, TestsStored};
 
 /// Where tests are stored, each text reads as one list of fields or is refused as a whole, for one
 /// reason and not both.
@@ -28,7 +28,9 @@ pub fn reads_more()
     ensures { ReadsMore }
 {}
 
-/// The tests that a field of a script keeps items by are stored.
-pub fn tests_stored()
-    ensures { TestsStored }
+/// The queries of each field can be run one after the other, and the tests that it keeps items by
+/// are stored.
+pub fn queries_run()
+    ensures run { QueriesRun }
+    ensures stored { TestsStored }
 {}
