@@ -1,14 +1,14 @@
 -- Steps and an end, read from the left.
-use Rattle.std.proofs.Common.{◌≡◌, ℕ, ◌+◌, ◌-◌, ◌<◌, ◌≤◌, Bool, true, false, List, [], ◌∷◌, ◌++◌, length, take, refl, sym, ◌∙◌, ap, arith, append_assoc, length-append}
+use Rattle.std.proofs.Common.{◌≡◌, ℕ, ◌+◌, ◌-◌, ◌<◌, ◌≤◌, Bool, true, false, List, [], ◌∷◌, ◌++◌, length, take, refl, sym, ◌∙◌, ap, arith, length-append}
 use Rattle.std.specs.Prelude.{Option, Some, None, option_map, option_and_then, nat_lt, if◌then◌else◌}
 use Rattle.std.specs.List.{slice_index_or}
 use Rattle.std.proofs.lemmas.Bool.Decides.{nat_tests}
-use Rattle.std.proofs.lemmas.List.{append-nil, length-take-le}
+use Rattle.std.proofs.lemmas.List.{length-take-le}
 use Rattle.std.proofs.Math.Seq.{take-append_seam, get_or-append_seam}
 use Rattle.query_script.specs.declared.script.Take.{Take}
 use Rattle.query_script.specs.declared.steps.RawStep.{RawStep}
 use Rattle.query_script.specs.Steps.{AreStepTexts, AreStepsText, parts, end_text, IsChainText}
-use Rattle.query_script.specs.inner.Reader.{with_end, read_step, read_steps, read_end, read_parts, read_chain}
+use Rattle.query_script.specs.inner.Reader.{with_end, read_steps, read_end, read_parts, read_chain}
 use Rattle.query_script.proofs.ListLemmas.{by_last}
 use Rattle.query_script.proofs.StepTexts.{steps_complete, end_complete, steps_sound, end_sound}
 
@@ -112,46 +112,3 @@ onto done o = option_map (λ steps. done ++ steps) o
 -- the parts before the rest were read as these steps
 pub record SoFar (all rest : Texts) (done : List RawStep) : Type 0 where
   pub so_far : read_steps all ≡ onto done (read_steps rest)
-
-onto_nothing : (o : Option (List RawStep)) → o ≡ onto [] o
-onto_nothing None = refl
-onto_nothing (Some steps) = refl
-
-pub begin : (all : Texts) → SoFar all all []
-begin all = record { so_far = onto_nothing (read_steps all) }
-
-onto_one : (done : List RawStep) (s : RawStep) (o : Option (List RawStep)) → onto done (option_map (λ steps. s ∷ steps) o) ≡ onto (done ++ s ∷ []) o
-onto_one done s None = refl
-onto_one done s (Some steps) = ap Some (sym (append_assoc done (s ∷ []) steps))
-
-pub one_more : (all rest : Texts) (done : List RawStep) (p : List ℕ) (s : RawStep) → SoFar all (p ∷ rest) done → Some s ≡ read_step p → SoFar all rest (done ++ s ∷ [])
-one_more all rest done p s h e =
-    let step : read_steps (p ∷ rest) ≡ option_map (λ steps. s ∷ steps) (read_steps rest) = rw (← e) refl in
-    record { so_far = h.so_far ∙ (ap (onto done) step ∙ onto_one done s (read_steps rest)) }
-
-pub no_step : (all rest : Texts) (done : List RawStep) (p : List ℕ) → SoFar all (p ∷ rest) done → None ≡ read_step p → None ≡ read_steps all
-no_step all rest done p h e =
-    let step : read_steps (p ∷ rest) ≡ None = rw (← e) refl in
-    sym (h.so_far ∙ ap (onto done) step)
-
-pub all_read : (all : Texts) (done : List RawStep) → SoFar all [] done → Some done ≡ read_steps all
-all_read all done h = sym (h.so_far ∙ ap Some (append-nil done))
-
--- ---- the parts of a text
-
-module _ (texts : Texts) where
-  pub too_few : length texts ≤ 1 → None ≡ read_parts texts
-  too_few l = let t : nat_lt 1 (length texts) ≡ false = test_false (length texts) l in rw t refl
-
-  module _ (l : 1 < length texts) where
-    there : nat_lt 1 (length texts) ≡ true
-    there = test_true (length texts) l
-
-    pub no_steps : None ≡ read_steps (take (length texts - 1) texts) → None ≡ read_parts texts
-    no_steps e = rw (there, ← e) refl
-
-    pub no_end : (steps : List RawStep) → Some steps ≡ read_steps (take (length texts - 1) texts) → None ≡ read_end (slice_index_or texts (length texts - 1) []) → None ≡ read_parts texts
-    no_end steps e g = rw (there, ← e, ← g) refl
-
-    pub steps_and_end : (steps : List RawStep) (t : Take) → Some steps ≡ read_steps (take (length texts - 1) texts) → Some t ≡ read_end (slice_index_or texts (length texts - 1) []) → Some (steps, t) ≡ read_parts texts
-    steps_and_end steps t e g = rw (there, ← e, ← g) refl

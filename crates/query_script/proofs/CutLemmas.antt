@@ -1,5 +1,5 @@
 -- A text that is being cut.
-use Rattle.std.proofs.Common.{◌≡◌, ℕ, zero, suc, ◌+◌, ◌<◌, ◌≤◌, ◌++◌, List, [], ◌∷◌, length, take, drop, get_or, get_or-drop, length-drop, ◌-◌, subst, refl, sym, ◌∙◌, ap, append_assoc, arith, add-one, drop-cons}
+use Rattle.std.proofs.Common.{◌≡◌, ℕ, suc, ◌+◌, ◌<◌, ◌≤◌, ◌++◌, List, [], ◌∷◌, length, take, drop, get_or, get_or-drop, length-drop, ◌-◌, subst, refl, sym, ◌∙◌, ap, append_assoc, arith, add-one, drop-cons}
 use Rattle.std.specs.Prelude.{Bool, true, false, ◌&&◌, ◌==◌, if◌then◌else◌}
 use Rattle.std.specs.List.{slice_range}
 use Rattle.std.proofs.lemmas.Bool.Decides.{nat_tests}
@@ -57,16 +57,6 @@ goes_on cuts text i done piece q h w e = record {
   whole = rw add-one (h.whole ∙ (ap (λ t. done ++ onto_all piece (pieces cuts q t)) (drop-cons text i 0 w) ∙ (ap (λ ps. done ++ onto_all piece ps) (uncut_pieces cuts q (get_or text i 0) (drop (suc i) text) e)
       ∙ ap (λ ps. done ++ ps) (onto_first_twice piece (get_or text i 0) (pieces cuts (quote_after q (get_or text i 0)) (drop (suc i) text))))));
 }
-
-drop_end : (xs : List ℕ) (i : ℕ) → length xs ≤ i → drop i xs ≡ []
-drop_end [] zero h = refl
-drop_end [] (suc i) h = refl
-drop_end (x ∷ xs) zero h = absurd (omega arith)
-drop_end (x ∷ xs) (suc i) h = drop_end xs i (omega arith)
-
-pub all_cut : (cuts : ℕ → Bool) (text : List ℕ) (i : ℕ) (done : List (List ℕ)) (piece : List ℕ) (q : ℕ) → Cutting cuts text i done piece q → length text ≤ i →
-    done ++ piece ∷ [] ≡ pieces cuts 0 text
-all_cut cuts text i done piece q h w = sym (h.whole ∙ (ap (λ t. done ++ onto_all piece (pieces cuts q t)) (drop_end text i w) ∙ ap (λ p. done ++ p ∷ []) (append-nil piece)))
 
 -- ---- where the piece that is begun is a part of the text
 

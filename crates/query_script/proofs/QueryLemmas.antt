@@ -1,5 +1,5 @@
 -- Steps that are kept or refused, one after the other.
-use Rattle.std.proofs.Common.{◌≡◌, ℕ, ◌+◌, ◌<◌, ◌≤◌, Bool, true, List, [], ◌∷◌, ◌++◌, length, drop, get_or, refl, sym, ◌∙◌, ap, subst, append_assoc, inl, inr}
+use Rattle.std.proofs.Common.{◌≡◌, ℕ, ◌+◌, ◌<◌, ◌≤◌, Bool, true, List, [], ◌∷◌, ◌++◌, length, drop, get_or, refl, sym, ◌∙◌, ap, subst, append_assoc, inr}
 use Rattle.std.specs.Prelude.{Result, Ok, Err, IfOk, encode_utf8_all}
 use Rattle.std.specs.Str.{chars, IsUtf8}
 use Rattle.std.proofs.lemmas.List.{append-nil, drop_all, drop_more}
@@ -18,7 +18,7 @@ use Rattle.query_script.specs.declared.script.ChainStep.{ChainStep}
 use Rattle.query_script.specs.declared.script.ChainStep.TheVariants as step
 use Rattle.query_script.specs.declared.script.Reason.{Reason}
 use Rattle.query_script.specs.declared.steps.RawStep.{RawStep}
-use Rattle.query_script.specs.Queries.{IsCssStep, IsKept, AreKept, IsRefused, IsFirstRefusal}
+use Rattle.query_script.specs.Queries.{IsCssStep, IsKept, AreKept, IsFirstRefusal}
 use Rattle.query_script.specs.Ordered.{IsInOrder, AreOrderedOver, IsStepStored, AreStored}
 
 -- ---- one step
@@ -53,9 +53,6 @@ pub record Keeping (tests : Known) (d : Dialect) (all rest : List RawStep) (kept
   pub stores : (more : List ChainStep) → AreStored tests more → AreStored tests (kept ++ more)
 
 module _ (tests : Known) (d : Dialect) where
-  pub keeping_none : (all : List RawStep) → Keeping tests d all all [] true
-  keeping_none all = record { keeps = λ more h. h; refuses = λ why h. h; orders = λ more h. h; stores = λ more h. h }
-
   pub in_order : (nodes after : Bool) (s : ChainStep) (more : List ChainStep) → IsInOrder tests nodes s after → AreOrderedOver tests after more → AreOrderedOver tests nodes (s ∷ more)
   in_order nodes after (step.Query text) more i h = (i.0, (i.1.0, (i.1.1.0, (let P : Bool → Type 0 = λ b. AreOrderedOver tests b more in subst P i.1.1.1 h))))
   in_order nodes after (step.Match pattern) more i h = let P : Bool → Type 0 = λ b. AreOrderedOver tests b more in subst P i h
@@ -81,12 +78,6 @@ module _ (tests : Known) (d : Dialect) where
     keeping_next i r kept nodes after s e l k is order stored =
         let P : List RawStep → Type 0 = λ rs. Keeping tests d xs rs kept nodes in
         keeping_more xs (drop (i + 1) xs) r kept nodes after s (subst P (next_of i r e l) k) is order stored
-
-    pub first_refused : (i : ℕ) (r : RawStep) (kept : List ChainStep) (nodes : Bool) (why : Reason) → r ≡ get_or xs i r → i < length xs → Keeping tests d xs (drop i xs) kept nodes →
-        IsRefused tests d nodes r why → IsFirstRefusal tests d true xs why
-    first_refused i r kept nodes why e l k is =
-        let P : List RawStep → Type 0 = λ rs. IsFirstRefusal tests d nodes rs why in
-        k.refuses why (subst P (sym (next_of i r e l)) (inl is))
 
     at_end : (i : ℕ) (kept : List ChainStep) (nodes : Bool) → length xs ≤ i → Keeping tests d xs (drop i xs) kept nodes → Keeping tests d xs [] kept nodes
     at_end i kept nodes far k = let P : List RawStep → Type 0 = λ rs. Keeping tests d xs rs kept nodes in subst P (drop_all i xs far) k
