@@ -3,13 +3,13 @@ use doc_model::{Kind, Tree, VecGrow, VecTree};
 use html_reader::read_html;
 use std::alloc::Global;
 use std::test::Fail;
-use text_base::{NoMemory, PageFault, PageReason};
+use text_base::{NoMemory, PAGE_LIMIT, PageFault, PageReason};
 
 fn read(alloc: Global, page: &str) -> Result<VecTree, PageFault> {
-    if page.len() > 4194304 {
+    if page.len() > PAGE_LIMIT {
         return Err(PageFault {
             reason: PageReason::TooLong,
-            at: 4194304,
+            at: PAGE_LIMIT,
         });
     }
     read_html(alloc, page, VecGrow::new(alloc))

@@ -5,11 +5,11 @@ use html_reader::read_html;
 use markup_back::{canonical, read_back};
 use std::alloc::Global;
 use std::test::Fail;
-use text_base::NoMemory;
+use text_base::{NoMemory, PAGE_LIMIT};
 
 /// The canonical markup of a page, or its fault with the place.
 fn written(alloc: Global, page: &str) -> Result<String, NoMemory> {
-    if page.len() > 4194304 {
+    if page.len() > PAGE_LIMIT {
         return Err(NoMemory);
     }
     match read_html(alloc, page, VecGrow::new(alloc)) {
@@ -20,13 +20,13 @@ fn written(alloc: Global, page: &str) -> Result<String, NoMemory> {
 
 /// How many rows the tree of a page has, and how many the tree that is read back of it.
 fn rows_back(alloc: Global, page: &str) -> Result<(u32, u32), NoMemory> {
-    if page.len() > 4194304 {
+    if page.len() > PAGE_LIMIT {
         return Err(NoMemory);
     }
     match read_html(alloc, page, VecGrow::new(alloc)) {
         Ok(tree) => {
             let text = canonical(alloc, &tree)?;
-            if text.len() > 4194304 {
+            if text.len() > PAGE_LIMIT {
                 return Err(NoMemory);
             }
             let back = read_back(alloc, &tree)?;
