@@ -1,16 +1,14 @@
 //! The values of expressions on a small document.
 use doc_model::{Axes, Plain};
 use std::alloc::Global;
-use std::test::Fail;
-use test_registry::{TestKind, Tests, ends_with, has_word, near, same_folded};
 use text_base::NoMemory;
 use worked_trees::{Step, tree_of};
-use xpath_eval::{eval, eval_with};
-use xpath_parser::{parse_xpath, parse_xpath_with};
+use xpath_eval::eval;
+use xpath_parser::parse_xpath;
 use xpath_values::{Value, XNum};
 
 /// `<div><p>a</p><ul><li>b</li></ul></div>`
-const PAGE: [Step; 8] = [
+pub(crate) const PAGE: [Step; 8] = [
     Step::Start("div", "", "", ""),
     Step::Start("p", "", "", "a"),
     Step::End,
@@ -22,7 +20,7 @@ const PAGE: [Step; 8] = [
 ];
 
 /// The value as text.
-fn shown(alloc: Global, value: &Value) -> Result<String, NoMemory> {
+pub(crate) fn shown(alloc: Global, value: &Value) -> Result<String, NoMemory> {
     match value {
         Value::Bool(truth) => Ok(format!(in alloc; "{truth}")?),
         Value::Num(XNum::NaN) => Ok(String::from_str(alloc, "NaN")?),
@@ -62,65 +60,6 @@ fn gives_values(rt: HostRuntime) {
         let got = from_root(alloc, &page, text).expect(&rt, "memory");
         assert_eq!(rt; got.as_str(), want, "{text}");
     }
-}
-
-/// The same where tests are stored.
-fn from_root_with<S: Axes>(
-    alloc: Global,
-    source: &S,
-    text: &str,
-    tests: &Tests,
-) -> Result<String, NoMemory> {
-    let Ok(typed) = parse_xpath_with(alloc, text, tests) else {
-        return Ok(String::from_str(alloc, "refused")?);
-    };
-    if source.len() == 0 {
-        return Err(NoMemory);
-    }
-    let value = eval_with(alloc, source, &typed, 0, tests)?;
-    shown(alloc, &value)
-}
-
-#[test]
-fn asks_stored_tests(rt: HostRuntime) -> Result<(), Fail> {
-    let alloc = rt.alloc();
-    let page = Plain::new(tree_of(alloc, &PAGE[..]).expect(&rt, "memory"));
-    let mut tests = Tests::new(alloc);
-    let test: Box<dyn Fn(&str, &str) -> bool> = Box::new(
-        alloc,
-        |a: &str, b: &str| same_folded(a, b),
-    )?;
-    assert!(rt; tests.add("same", TestKind::SameFolded, test).is_ok());
-    let test: Box<dyn Fn(&str, &str) -> bool> = Box::new(
-        alloc,
-        |a: &str, b: &str| ends_with(a, b),
-    )?;
-    assert!(rt; tests.add("ends-with", TestKind::EndsWith, test).is_ok());
-    let test: Box<dyn Fn(&str, &str) -> bool> = Box::new(alloc, |a: &str, b: &str| has_word(a, b))?;
-    assert!(rt; tests.add("has-word", TestKind::HasWord, test).is_ok());
-    let most = 100u32;
-    let test: Box<dyn Fn(&str, &str) -> bool> = Box::new(
-        alloc,
-        move |a: &str, b: &str| near(most, a, b),
-    )?;
-    assert!(rt; tests.add("near", TestKind::Near(most), test).is_ok());
-    for (text, want) in [
-        ("same('AbC', 'aBc')", "true"),
-        ("ends-with('abc', '')", "true"),
-        ("ends-with('ab', 'a')", "false"),
-        ("has-word('a b', '')", "false"),
-        ("near('5', 110)", "false"),
-        ("near('10', 110)", "true"),
-        ("near('120', 110)", "true"),
-        ("near('x', 110)", "false"),
-        ("count(//*[near(count(.//node()), 103)])", "1"),
-        ("//li[same(., 'B') and not(same(//p, //li))]", "[5]"),
-        ("nearby('1', '2')", "refused"),
-    ] {
-        let got = from_root_with(alloc, &page, text, &tests).expect(&rt, "memory");
-        assert_eq!(rt; got.as_str(), want, "{text}");
-    }
-    Ok(())
 }
 
 /// So many times the front, `1`, and so many times the back.

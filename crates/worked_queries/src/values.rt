@@ -16,6 +16,8 @@ fn reads_and_writes_numbers(rt: HostRuntime) -> Result<(), Fail> {
         ("1.0", "NaN"),
         ("+1", "NaN"),
         ("- 1", "NaN"),
+        ("-", "NaN"),
+        ("x", "NaN"),
         ("1 2", "NaN"),
         ("", "NaN"),
     ];
