@@ -11,6 +11,17 @@ pub mod LinkLemmas
 pub mod ListLemmas
 pub mod MemberFits
 pub mod MemberLemmas
+pub mod NormalChoices
+pub mod NormalForms
+pub mod NormalLinks
+pub mod NormalLists
+pub mod NormalMembers
+pub mod NormalNth
+pub mod NormalPieces
+pub mod NormalPlaces
+pub mod NormalRelatives
+pub mod NormalSigns
+pub mod NormalSimples
 pub mod NthLemmas
 pub mod PlaceLemmas
 pub mod RefusalLemmas

@@ -1,5 +1,5 @@
 -- Forms, inners and members whose names and values are texts are simple selectors, compounds and relatives of texts.
-use Rattle.std.proofs.Common.{◌≡◌, ℕ, Bool, true, false, ◌&&◌, List, [], ◌∷◌, ◌++◌, map, flat_map, fold, refl, sym, ◌∙◌, ap, subst}
+use Rattle.std.proofs.Common.{◌≡◌, ℕ, Bool, true, false, ◌&&◌, List, [], ◌∷◌, map, flat_map, fold, refl, sym, ◌∙◌, ap, subst}
 use Rattle.std.proofs.lemmas.Bool.{and_from}
 use Rattle.std.proofs.lemmas.List.Folds.{list_all-append}
 use Rattle.std.specs.List.{AllByRecursion, list_all}
@@ -11,7 +11,6 @@ use Rattle.css_selectors.specs.declared.selector.Simple.{Simple}
 use Rattle.css_selectors.specs.declared.selector.Tail.{Tail}
 use Rattle.css_selectors.specs.declared.selector.Test.{Test}
 use Rattle.css_selectors.specs.declared.selector.Test.TheOpen as test_open
-use Rattle.css_selectors.specs.declared.selector.Test.TheVariants as test
 use Rattle.css_selectors.specs.declared.selector.Weight.{Weight}
 use Rattle.css_selectors.specs.declared.selector.Weight.TheVariants as weight
 use Rattle.css_selectors.specs.Texts.{element_text, test_texts, compound_texts, part_texts, relative_texts, simple_texts, tail_text}

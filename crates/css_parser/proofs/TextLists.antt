@@ -1,11 +1,10 @@
 -- A list that is read from a text in UTF-8 has texts alone.
-use Rattle.std.proofs.Common.{◌≡◌, ℕ, zero, suc, ◌+◌, Bool, true, false, ◌&&◌, cond, List, [], ◌∷◌, length, map, flat_map, fold, IsUtf8, refl, sym, ◌∙◌, ap, subst}
+use Rattle.std.proofs.Common.{◌≡◌, ℕ, zero, suc, ◌+◌, Bool, true, false, ◌&&◌, cond, List, [], ◌∷◌, length, map, fold, IsUtf8, refl, sym, ◌∙◌, ap, subst}
 use Rattle.std.proofs.lemmas.Bool.{and_from}
 use Rattle.std.specs.List.{AllByRecursion, list_all}
 use Rattle.std.specs.Prelude.{◌||◌, Option, Some, None}
 use Rattle.css_lexer.specs.declared.tokens.CssKind.TheVariants as kind
 use Rattle.css_lexer.specs.declared.tokens.CssToken.{CssToken}
-use Rattle.css_lexer.specs.Tokens.{Lexes}
 use Rattle.css_lexer.proofs.TokenTexts.{all_texts}
 use Rattle.css_selectors.specs.declared.selector.Compound as choice
 use Rattle.css_selectors.specs.declared.selector.Link.{Link}
@@ -31,7 +30,7 @@ use Rattle.css_parser.specs.declared.pieces.FormsRead.{FormsRead}
 use Rattle.css_parser.specs.declared.pieces.Inner.{Inner}
 use Rattle.css_parser.specs.declared.pieces.InnerRead.{InnerRead}
 use Rattle.css_parser.specs.declared.pieces.InnersRead.{InnersRead}
-use Rattle.css_parser.specs.declared.pieces.Member.{Member, out-Member}
+use Rattle.css_parser.specs.declared.pieces.Member.{Member}
 use Rattle.css_parser.specs.declared.pieces.ListRead.{ListRead}
 use Rattle.css_parser.specs.declared.pieces.LinkRead.{LinkRead}
 use Rattle.css_parser.specs.declared.pieces.ElementRead.{ElementRead}
@@ -39,9 +38,8 @@ use Rattle.css_parser.specs.declared.pieces.Compound.{Compound}
 use Rattle.css_parser.specs.Places.{stands, skip}
 use Rattle.css_parser.specs.Links.{combinator, sign}
 use Rattle.css_parser.specs.Simples.{element, piece_at}
-use Rattle.css_parser.specs.Choices.{word_at, one_read, choice_read, deep_read, is_has, Reader, Forms, forms_by, forms_from, inner_read, some_read, inner_with, parts_by, alone, joined, member_of, front, inner_at, further_with, further_at, parts_from, member_at, list_by, list_from, members, choice_with, deep_by, deep, simple_by, simple}
+use Rattle.css_parser.specs.Choices.{word_at, one_read, choice_read, deep_read, is_has, Reader, forms_by, forms_from, inner_read, some_read, inner_with, parts_by, alone, joined, member_of, front, inner_at, further_with, further_at, parts_from, member_at, list_by, list_from, members, choice_with, deep_by, deep, simple_by}
 use Rattle.css_parser.specs.Grammar.{Simples, HasElement, past_element, IsCompound, Further, IsSelector, Others, Reads}
-use Rattle.css_parser.specs.Values.{form_simples}
 use Rattle.css_parser.specs.Lists.{part_of, tail_after, selector_of, list_of}
 use Rattle.css_parser.specs.Selecting.{Accepts}
 use Rattle.css_parser.proofs.TextPieces.{HaveTexts, IsTextRead, IsTextElement, piece_text, element_is_text}

@@ -343,13 +343,13 @@ part_few x = size_of_part (part_of x) ∙ ap (λ (d : PartLayer). 1 + sum_by sim
 pub compound_few : (x : Inner) → part_size (part_of x) ≡ 1 + compound_size (compound_of x)
 compound_few x = part_few x ∙ ap (λ n. 1 + n) (sym (size_of_compound (compound_of x) ∙ ap (λ (d : ChoiceLayer). sum_by simple_size d.simples) (compound_out x)))
 
-still_none : (a e : Around) → (is_none a && is_none e) ≡ is_none (innermost a e)
+pub still_none : (a e : Around) → (is_none a && is_none e) ≡ is_none (innermost a e)
 still_none None None = refl
 still_none None (Some n) = refl
 still_none (Some m) None = refl
 still_none (Some m) (Some n) = refl
 
-its_own : (e : Around) → innermost None e ≡ e
+pub its_own : (e : Around) → innermost None e ≡ e
 its_own None = refl
 its_own (Some n) = refl
 

@@ -2,6 +2,7 @@
 use Rattle.std.specs.Prelude.{◌≡◌, ◌⊎◌, Bool, ℕ, ◌+◌, ◌≤◌, List, length, Option, Some, None}
 use Rattle.std.specs.Str.{IsUtf8}
 use Rattle.css_lexer.specs.declared.tokens.CssToken.{CssToken}
+use Rattle.css_lexer.specs.Tokens.{most_selector}
 use Rattle.css_selectors.specs.declared.selector.SelectorList.{SelectorList}
 use Rattle.css_selectors.specs.Texts.{AreTexts}
 use Rattle.css_selectors.specs.WellMade.{WellMade}
@@ -9,7 +10,9 @@ use Rattle.text_base.specs.declared.reasons.SelectorFault.{SelectorFault}
 use Rattle.css_parser.specs.declared.pieces.FormRead.{FormRead}
 use Rattle.css_parser.specs.Simples.{piece_at}
 use Rattle.css_parser.specs.Choices.{word_at, one_read, deep_read, members, choice_with, deep, simple_by}
+use Rattle.css_parser.specs.Normal.{written}
 use Rattle.css_parser.specs.Selecting.{Accepts, IsFault}
+use Rattle.css_parser.specs.Writable.{IsWritable}
 
 -- a text is accepted as one list at most
 abbrev pub HasOneReading : Type 0
@@ -33,6 +36,11 @@ IsWellMade = (text : List ℕ) (list : SelectorList) → Accepts text list → W
 -- every list that is accepted of a text in UTF-8 has texts alone
 abbrev pub HasTexts : Type 0
 HasTexts = (text : List ℕ) (list : SelectorList) → IsUtf8 text → Accepts text list → AreTexts list
+
+-- A list that is well made, of texts and writable is accepted of its plain text, where that is not too long. So the tokens, the
+-- grammar and the list are held by a function that goes the other way.
+abbrev pub HasNormalForm : Type 0
+HasNormalForm = (list : SelectorList) → WellMade list → AreTexts list → IsWritable list → length (written list) ≤ most_selector → Accepts (written list) list
 
 -- the grammar has no depth: a choice is read by what stands in it, which is read in the same way
 abbrev pub IsReadAlike : Type 0

@@ -4,10 +4,12 @@ pub mod Laws
 pub mod Links
 pub mod Lists
 pub mod Names
+pub mod Normal
 pub mod Nth
 pub mod Places
 pub mod Refusals
 pub mod Selecting
 pub mod Simples
 pub mod Values
+pub mod Writable
 pub mod inner

@@ -1,4 +1,4 @@
-ghost use Rattle.css_parser.specs.Laws.{HasListOrFault, HasOneReading, HasOneFault, HasTexts, IsListOrFault, IsReadAlike, IsWellMade, KeepsEnds};
+ghost use Rattle.css_parser.specs.Laws.{HasListOrFault, HasNormalForm, HasOneReading, HasOneFault, HasTexts, IsListOrFault, IsReadAlike, IsWellMade, KeepsEnds};
 
 /// Each text is accepted as one list, which is well made, or has one fault, and not both. The names
 /// and values of a list that is accepted of a text in UTF-8 are texts.
@@ -17,4 +17,11 @@ pub fn one_list_or_fault()
 pub fn choices_without_depth()
     ensures alike { IsReadAlike }
     ensures ends { KeepsEnds }
+{}
+
+/// Each list that is well made, of texts and writable is accepted of its plain text, where that is
+/// not longer than a selector may be. The plain text has an element or `*` in each compound, each
+/// name and string in escapes, and an empty comment after each token.
+pub fn normal_form()
+    ensures { HasNormalForm }
 {}
