@@ -1,4 +1,4 @@
-//! Which rows pass a step's test, and the rows on an axis that is not walked from row to parent.
+//! The rows that a node test selects, and the rows on an axis that is not walked from row to parent.
 ghost use Rattle.std.specs.Prelude.{◌≡◌, ◌<◌, ◌++◌, ◌∷◌, ◌&&◌, [], Some, false, if◌then◌else◌, length, filter, reverse, slice_get, OnOk, OnErr};
 ghost use Rattle.doc_model.specs.Axes as spec;
 ghost use Rattle.doc_model.specs.Axes.{passes, is_principal};
