@@ -66,7 +66,7 @@ module _ (doc : Document) where
   last_items items [] = items
   last_items items (a ∷ actions) = last_items (step_items a items) actions
 
-  -- the texts that a step looks at: a search and a test look at those of all items that they are given
+  -- the texts that a step looks at: a search and a test look at those of all items that they are given, found or not, kept or not
   abbrev pub searched : Action → List Item → List (List ℕ)
   searched (select x) items = []
   searched (search source) items = item_texts items
@@ -84,8 +84,8 @@ abbrev pub is_over : Limits → List (List ℕ) → Bool
 is_over limits ts = nat_lt limits.bytes (bytes_of ts)
 
 module _ (limits : Limits) (doc : Document) where
-  -- the limits that a step passes, in the order in which they are looked at: the bytes looked at, the number of
-  -- items, the bytes of the items that are texts
+  -- the limits that a step passes, in their order: the bytes of the texts that it looks at, the number of its items, the bytes
+  -- of its items that are texts
   abbrev pub step_passes : Action → List Item → List Reason
   step_passes a items =
       if_passed (is_over limits (searched doc a items)) reason.Output
@@ -157,4 +157,4 @@ abbrev pub IsValueAt : Document → ℕ → Field → FieldValue → Type 0
 IsValueAt doc x field v = IsValueAtOver [] doc x field v
 
 abbrev pub IsValue : Document → Field → FieldValue → Type 0
-IsValue doc field v = IsValueOver [] doc field v
+IsValue doc field v = IsValueAt doc 0 field v

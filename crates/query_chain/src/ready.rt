@@ -33,7 +33,6 @@ impl Model for Ready {
     ghost Value = { Task };
 
     ghost use Rattle.std.specs.Coded.{codes};
-    ghost use Rattle.test_registry.specs.contracts.kinds.TestKind as k;
     ghost use Rattle.xpath_parser.specs.contracts.expression.Expr as e;
 
     ghost coded = { Prim.hlevel (codes, e.the_row.coded) };
