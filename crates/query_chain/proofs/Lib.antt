@@ -6,6 +6,7 @@ pub mod Keeping
 pub mod Lists
 pub mod Matching
 pub mod Readying
+pub mod Rowing
 pub mod Searching
 pub mod Selecting
 pub mod Shapes

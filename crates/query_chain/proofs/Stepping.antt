@@ -19,7 +19,7 @@ use Rattle.query_script.specs.declared.script.Take.{Take}
 use Rattle.query_chain.proofs.Lists.{strings_texts, strings_nodes}
 use Rattle.std.proofs.lemmas.Bool.{le-ltb, lt-ltb}
 
-is_within : (limits : Limits) (ts : List (List ℕ)) → bytes_of ts ≤ limits.bytes → is_over limits ts ≡ false
+pub is_within : (limits : Limits) (ts : List (List ℕ)) → bytes_of ts ≤ limits.bytes → is_over limits ts ≡ false
 is_within limits ts h = le-ltb limits.bytes (bytes_of ts) h
 
 over_it : (limits : Limits) (ts : List (List ℕ)) → limits.bytes < bytes_of ts → is_over limits ts ≡ true

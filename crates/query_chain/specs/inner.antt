@@ -3,5 +3,6 @@ pub mod Built
 pub mod Found
 pub mod Keeping
 pub mod Readiness
+pub mod RowSteps
 pub mod Steps
 pub mod Values

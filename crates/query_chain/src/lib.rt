@@ -9,6 +9,7 @@ mod limits;
 mod pattern;
 mod ready;
 mod ready_steps;
+mod rows;
 mod run;
 mod search;
 mod select;
@@ -16,4 +17,5 @@ mod steps;
 
 pub use laws::{a_value, one_value};
 pub use ready::{Ready, prepare_with};
+pub use rows::{ReadyRows, prepare_rows, run_rows};
 pub use run::{run_field, run_field_at, run_field_with, run_ready_at};

@@ -20,7 +20,8 @@ const MOST_ITEMS: usize = 1_000_000;
 /// The most bytes that texts may have together.
 const MOST_TEXT: usize = 8_388_608;
 
-const FIELD_LIMITS: Limits = Limits {
+/// The limits of each chain.
+pub const FIELD_LIMITS: Limits = Limits {
     items: MOST_ITEMS,
     bytes: MOST_TEXT,
 };

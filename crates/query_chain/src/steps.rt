@@ -178,7 +178,7 @@ fn give<S: Axes>(
 }
 
 /// What the last step gives, from the row x on.
-fn give_all<S: Axes>(
+pub fn give_all<S: Axes>(
     alloc: Global,
     source: &S,
     steps: &[ReadyStep],
