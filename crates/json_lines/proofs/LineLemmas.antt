@@ -9,7 +9,7 @@ use Rattle.css_selectors.specs.declared.selector.Selector.{Selector}
 use Rattle.css_selectors.specs.Specificity.{triple_of}
 use Rattle.json_lines.specs.Lines.{css_data, css_text, reason_data, reason_text, triple_data, triple_text, triples_text}
 
-or_false : (a b : Bool) → a ≡ false → b ≡ false → (a || b) ≡ false
+pub or_false : (a b : Bool) → a ≡ false → b ≡ false → (a || b) ≡ false
 or_false a b p q = rw (p, q) refl
 
 -- items without a float

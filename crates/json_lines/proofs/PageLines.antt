@@ -13,7 +13,7 @@ use Rattle.query_script.specs.declared.script.FieldValue.TheVariants.{All, One, 
 use Rattle.json_lines.specs.Pages.{string_text, value_text, field_text, page_text, refused_text, texts_data, field_data, fields_data, page_data, refused_data}
 use Rattle.json_lines.proofs.LineLemmas.{items_no_float, items_compact}
 
-field_no_float : (name : List ℕ) (v : FieldValue) → has_float (field_data name v) ≡ false
+pub field_no_float : (name : List ℕ) (v : FieldValue) → has_float (field_data name v) ≡ false
 field_no_float name (All texts) = ap (λ b. b || false) (items_no_float (λ t. string (encode_utf8_all t)) (λ t. refl) texts)
 field_no_float name (One None) = refl
 field_no_float name (One (Some t)) = refl
@@ -23,7 +23,7 @@ page_no_float : (name : List ℕ) (fields : List Field) (values : List FieldValu
 page_no_float name fields values =
     ap (λ b. b || false) (items_no_float (λ (p : Field × FieldValue). field_data (encode_utf8_all p.0.name) p.1) (λ p. field_no_float (encode_utf8_all p.0.name) p.1) (zip fields values))
 
-value_compact : (name : List ℕ) (v : FieldValue) → compact_text (field_data name v) ≡ codes "{\"name\":" ++ (quoted name ++ (value_text v ++ codes "}"))
+pub value_compact : (name : List ℕ) (v : FieldValue) → compact_text (field_data name v) ≡ codes "{\"name\":" ++ (quoted name ++ (value_text v ++ codes "}"))
 unfolding escape_byte
 value_compact name (All texts) =
     let front : List ℕ = codes ",\"value\":[" in

@@ -9,14 +9,14 @@ use Rattle.query_script.specs.declared.script.Field.{Field}
 use Rattle.query_script.specs.declared.script.FieldValue.{FieldValue}
 use Rattle.json_lines.specs.Pages.{field_data}
 
-zip_next : {A B : Type 0} (ks : List A) (bs : List B) (i : ℕ) (a : A) (b : B) → i < length ks → length ks ≡ length bs → a ≡ get_or ks i a → b ≡ get_or bs i b
+pub zip_next : {A B : Type 0} (ks : List A) (bs : List B) (i : ℕ) (a : A) (b : B) → i < length ks → length ks ≡ length bs → a ≡ get_or ks i a → b ≡ get_or bs i b
     → take (suc i) (zip ks bs) ≡ take i (zip ks bs) ++ (a, b) ∷ []
 zip_next [] bs i a b w l p q = absurd (omega arith)
 zip_next (x ∷ ks) [] i a b w l p q = absurd (omega arith)
 zip_next (x ∷ ks) (y ∷ bs) zero a b w l p q = rw (p, q) refl
 zip_next (x ∷ ks) (y ∷ bs) (suc i) a b w l p q = ap (λ t. (x, y) ∷ t) (zip_next ks bs i a b (omega arith) (omega arith) p q)
 
-zip_all : {A B : Type 0} (ks : List A) (bs : List B) (i : ℕ) → length ks ≡ i → length ks ≡ length bs → take i (zip ks bs) ≡ zip ks bs
+pub zip_all : {A B : Type 0} (ks : List A) (bs : List B) (i : ℕ) → length ks ≡ i → length ks ≡ length bs → take i (zip ks bs) ≡ zip ks bs
 zip_all [] bs zero e l = refl
 zip_all [] bs (suc i) e l = refl
 zip_all (x ∷ ks) [] i e l = absurd (omega arith)

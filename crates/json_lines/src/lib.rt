@@ -5,5 +5,5 @@
 mod pages;
 mod selectors;
 
-pub use pages::{page_line, refused_line};
+pub use pages::{field_object, field_reason, page_line, refused_line, texts_value};
 pub use selectors::{css_line, reason_line};

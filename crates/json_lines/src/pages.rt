@@ -43,8 +43,8 @@ pub fn refused_line(alloc: Global, name: &str, fault: PageFault) -> Result<Strin
     }
 }
 
-/// The reason of a field as it is printed.
-fn field_reason(alloc: Global, reason: &Reason) -> Result<String, AllocError>
+/// The reason of a field as it is printed: a family, a point and the reason's own name.
+pub fn field_reason(alloc: Global, reason: &Reason) -> Result<String, AllocError>
     ensures { IfOk result (λ s. string_bytes s ≡ field_reason reason.now) }
 {
     let (family, word) = reason.words();
@@ -55,7 +55,7 @@ fn field_reason(alloc: Global, reason: &Reason) -> Result<String, AllocError>
 }
 
 /// The texts as an array of strings.
-fn texts_value(alloc: Global, texts: &[Txt]) -> Result<Value, AllocError>
+pub fn texts_value(alloc: Global, texts: &[Txt]) -> Result<Value, AllocError>
     ensures { IfOk result (λ v. view v ≡ texts_data texts.now) }
 {
     let mut items = Vec::new(alloc);
@@ -65,8 +65,9 @@ fn texts_value(alloc: Global, texts: &[Txt]) -> Result<Value, AllocError>
     Ok(Value::Array(items))
 }
 
-/// The object of a field.
-fn field_object(alloc: Global, name: &str, value: &FieldValue) -> Result<Value, AllocError>
+/// The object of a field with this name: the members `name` and `value`, which is a string, null or an array of strings, or
+/// `name` and `refused`, the reason.
+pub fn field_object(alloc: Global, name: &str, value: &FieldValue) -> Result<Value, AllocError>
     ensures { IfOk result (λ v. view v ≡ field_data name.now value.now) }
 {
     match value {
