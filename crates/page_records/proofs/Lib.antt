@@ -1,0 +1,17 @@
+pub mod BodyLemmas
+pub mod ContentLemmas
+pub mod CutLemmas
+pub mod EntryLemmas
+pub mod FieldTasks
+pub mod LookLemmas
+pub mod Members
+pub mod NameLemmas
+pub mod OneReading
+pub mod OneSteps
+pub mod PlainScripts
+pub mod RecordLines
+pub mod RowLemmas
+pub mod SizeLemmas
+pub mod SomeBlock
+pub mod SomeReading
+pub mod WordLemmas
