@@ -35,7 +35,7 @@ use Rattle.query_script.specs.Fields.{IsChain, IsFieldOver, AreFields, IsScriptO
 use Rattle.query_script.specs.inner.Reader.{read_chain}
 use Rattle.query_script.proofs.FieldLemmas.{chain_none, chain_some}
 
-css_fault : (d : Dialect) (text : List ℕ) (f : SelectorFault) → IsFault (encode_utf8_all text) f → IsCssFault d text f
+css_fault : (d : Dialect) (text : List ℕ) (f : SelectorFault) → IsFault text f → IsCssFault d text f
 css_fault d text fault.XPathLong h = absurd h
 css_fault d text _ h = h
 
@@ -48,7 +48,7 @@ module _ (tests : Known) (d : Dialect) where
   css_step : (text : List ℕ) → Step true (raw.Css text)
   css_step text = elim (each_list_or_fault (encode_utf8_all text)) [
     | inl list ↦ by_length list.0 list.1 (cases_lt most_xpath (length (printed d list.0)))
-    | inr f ↦ inr (reason.Css f.0, css_fault d text f.0 f.1)
+    | inr f ↦ inr (reason.Css f.0, css_fault d (encode_utf8_all text) f.0 f.1)
   ]
     where
       by_length : (l : SelectorList) → Accepts (encode_utf8_all text) l → (most_xpath < length (printed d l)) ⊎ (length (printed d l) ≤ most_xpath) → Step true (raw.Css text)
@@ -68,7 +68,7 @@ module _ (tests : Known) (d : Dialect) where
       by_name None e = inr (reason.Test, (refl, e))
       by_name (Some kind) e = inl (step.Keep kind text, (nodes, record { kind = kind; stored = e; is = refl; shape = refl }))
 
-  a_step : (nodes : Bool) (r : RawStep) → Step nodes r
+  pub a_step : (nodes : Bool) (r : RawStep) → Step nodes r
   a_step true (raw.Css text) = css_step text
   a_step false (raw.Css text) = inr (reason.Order, refl)
   a_step true (raw.XPath text) = xpath_step text

@@ -28,15 +28,15 @@ use Rattle.query_script.specs.Queries.{IsCssStep, IsXPathStep, IsKeepStep, IsKep
 -- ---- selectors
 
 -- the text is no list of selectors, or its XPath is too long
-css_cause : (d : Dialect) (text : List ℕ) (f : SelectorFault) → IsCssFault d text f → ((f ≡ fault.XPathLong) × IsXPathLong d text) ⊎ IsFault (encode_utf8_all text) f
+css_cause : (d : Dialect) (text : List ℕ) (f : SelectorFault) → IsCssFault d text f → ((f ≡ fault.XPathLong) × IsXPathLong d text) ⊎ IsFault text f
 css_cause d text fault.XPathLong h = inl (refl, h)
 css_cause d text _ h = inr h
 
 -- whichever list is accepted, its XPath is too long
-long_for : (d : Dialect) (text : List ℕ) (l : SelectorList) → Accepts (encode_utf8_all text) l → (f : SelectorFault) → IsCssFault d text f → (f ≡ fault.XPathLong) × IsXPathLong d text
+long_for : (d : Dialect) (text : List ℕ) (l : SelectorList) → Accepts text l → (f : SelectorFault) → IsCssFault d text f → (f ≡ fault.XPathLong) × IsXPathLong d text
 long_for d text l h f r = elim (css_cause d text f r) [
   | inl long ↦ long
-  | inr cause ↦ absurd (list_or_fault (encode_utf8_all text) l f h cause)
+  | inr cause ↦ absurd (list_or_fault text l f h cause)
 ]
 
 css_one_fault : (d : Dialect) (text : List ℕ) (f g : SelectorFault) → IsCssFault d text f → IsCssFault d text g → f ≡ g
@@ -45,13 +45,13 @@ css_one_fault d text f g h k = elim (css_cause d text f h) [
   | inr cause ↦ by_other cause (css_cause d text g k)
 ]
   where
-    by_other : IsFault (encode_utf8_all text) f → ((g ≡ fault.XPathLong) × IsXPathLong d text) ⊎ IsFault (encode_utf8_all text) g → f ≡ g
+    by_other : IsFault text f → ((g ≡ fault.XPathLong) × IsXPathLong d text) ⊎ IsFault text g → f ≡ g
     by_other cause (inl long) = (long_for d text long.1.list long.1.accepted f h).0 ∙ sym long.0
-    by_other cause (inr other) = one_fault (encode_utf8_all text) f g cause other
+    by_other cause (inr other) = one_fault text f g cause other
 
-css_not_both : (d : Dialect) (text : List ℕ) (s : ChainStep) (nodes : Bool) (f : SelectorFault) → IsCssStep d text s nodes → IsCssFault d text f → ⊥
+css_not_both : (d : Dialect) (text : List ℕ) (s : ChainStep) (nodes : Bool) (f : SelectorFault) → IsCssStep d text s nodes → IsCssFault d (encode_utf8_all text) f → ⊥
 css_not_both d text s nodes f h r =
-    let long = (long_for d text h.list h.accepted f r).1 in
+    let long = (long_for d (encode_utf8_all text) h.list h.accepted f r).1 in
     let same : printed d long.list ≡ printed d h.list = ap (printed d) (one_reading (encode_utf8_all text) long.list h.list long.accepted h.accepted) in
     let short = h.short in
     let over = long.long in
@@ -63,7 +63,7 @@ css_same d text s t n m h g =
     let same : printed d h.list ≡ printed d g.list = ap (printed d) (one_reading (encode_utf8_all text) h.list g.list h.accepted g.accepted) in
     (h.is ∙ (ap (λ x. step.Query (chars x)) same ∙ sym g.is), h.shape ∙ sym g.shape)
 
-css_reason : (d : Dialect) (text : List ℕ) (why : Reason) → IsCssRefused d text why → (f : SelectorFault) × ((why ≡ reason.Css f) × IsCssFault d text f)
+css_reason : (d : Dialect) (text : List ℕ) (why : Reason) → IsCssRefused d text why → (f : SelectorFault) × ((why ≡ reason.Css f) × IsCssFault d (encode_utf8_all text) f)
 css_reason d text (reason.Css f) h = (f, (refl, h))
 css_reason d text _ h = absurd h
 
@@ -71,7 +71,7 @@ css_one_reason : (d : Dialect) (text : List ℕ) (why other : Reason) → IsCssR
 css_one_reason d text why other h g =
     let a = css_reason d text why h in
     let b = css_reason d text other g in
-    a.1.0 ∙ (ap reason.Css (css_one_fault d text a.0 b.0 a.1.1 b.1.1) ∙ sym b.1.0)
+    a.1.0 ∙ (ap reason.Css (css_one_fault d (encode_utf8_all text) a.0 b.0 a.1.1 b.1.1) ∙ sym b.1.0)
 
 -- ---- XPath texts and tests
 

@@ -5,6 +5,7 @@ use Rattle.std.specs.List.{AllByRecursion, list_any, before_first, after_first, 
 use Rattle.std.specs.Str.{IsUtf8, chars}
 use Rattle.std.proofs.lemmas.Bool.{cases_lt}
 use Rattle.std.proofs.lemmas.Bool.Decides.{nat_tests}
+use Rattle.std.proofs.lemmas.List.Elements.{All-contains, All-from_recursion}
 use Rattle.std.proofs.lemmas.List.Sums.{passes_at_first, split_at_first}
 use Rattle.text_base.proofs.Text.{encode-chars}
 use Rattle.test_registry.specs.Names.{Known}
@@ -23,6 +24,7 @@ use Rattle.query_script.specs.declared.steps.RawStep.{RawStep}
 use Rattle.query_script.specs.declared.steps.RawStep.TheVariants as raw
 use Rattle.query_script.specs.Cuts.{is_point, ends_field, pieces, fields_of}
 use Rattle.query_script.specs.Names.{is_colon, is_named, is_name, label, after_colon}
+use Rattle.query_script.specs.Selectors.{IsSelectorText}
 use Rattle.query_script.specs.Steps.{doubled, IsString, IsCall, IsStepText, AreStepTexts, parts, end_text, IsChainText}
 use Rattle.query_script.specs.Queries.{IsCssStep, IsKept, AreKept}
 use Rattle.query_script.specs.Ordered.{IsInOrder, AreOrderedOver, IsOrderedChainOver, IsOrderedOver}
@@ -98,6 +100,14 @@ rest_utf8 piece named utf8 =
     let l = within piece (both (list_any is_colon piece) (is_name (label piece)) named).0 in
     let c = get_or piece (position_or_len is_colon piece) 0 in
     utf8_after (before_first is_colon piece) c (after_first is_colon piece) (colon_ascii c (passes_at_first is_colon piece 0 l)) (subst IsUtf8 (split_at_first is_colon piece 0 l) utf8)
+
+-- the selectors of a UTF-8 script
+pub selector_utf8 : (script text : List ℕ) → IsUtf8 script → IsSelectorText script text → IsUtf8 text
+selector_utf8 script text utf8 h =
+    let all : AreUtf8 (fields_of script) = written_utf8 (pieces ends_field 0 script) (pieces_utf8 ends_field field_ascii script utf8) in
+    let piece : IsUtf8 h.piece = All-contains IsUtf8 (fields_of script) h.piece (All-from_recursion IsUtf8 (fields_of script) all) h.field in
+    let each : AllByRecursion StepUtf8 h.steps = chain_utf8 (after_colon h.piece) h.steps h.take h.written (rest_utf8 h.piece h.named piece) in
+    subst IsUtf8 (sym h.is) (All-contains StepUtf8 h.steps (raw.Css h.value) (All-from_recursion StepUtf8 h.steps each) h.step)
 
 -- ---- steps
 

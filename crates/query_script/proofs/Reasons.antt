@@ -62,7 +62,7 @@ css_not_for_memory d text selector.Number h = λ e. cc
 css_not_for_memory d text selector.XPathLong h = λ e. cc
 
 of_css : (d : Dialect) (text : List ℕ) (why : Reason) → IsCssRefused d text why → IsFieldReason why
-of_css d text (reason.Css f) h = css_not_for_memory d text f h
+of_css d text (reason.Css f) h = css_not_for_memory d (encode_utf8_all text) f h
 of_css d text _ h = absurd h
 
 alone : (one why : Reason) → why ≡ one → IsFieldReason one → IsFieldReason why

@@ -4,6 +4,7 @@ pub mod Laws
 pub mod Names
 pub mod Ordered
 pub mod Queries
+pub mod Selectors
 pub mod Steps
 pub mod Words
 pub mod inner

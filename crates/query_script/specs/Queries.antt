@@ -72,19 +72,19 @@ AreKept tests d nodes (r ∷ steps) (s ∷ kept) = (after : Bool) × (IsKept tes
 
 -- ---- a step that is refused
 
--- the text is a list of selectors whose XPath is too long
+-- the text, as bytes, is a list of selectors whose XPath is too long
 pub record IsXPathLong (d : Dialect) (text : List ℕ) : Type 0 where
   pub list : SelectorList
-  pub accepted : Accepts (encode_utf8_all text) list
+  pub accepted : Accepts text list
   pub long : most_xpath < length (printed d list)
 
--- why the text of a css step is refused: it is no list of selectors, or the XPath of its list is too long
+-- why a selector, as bytes, is refused: it is no list of selectors, or the XPath of its list is too long
 abbrev pub IsCssFault : Dialect → List ℕ → SelectorFault → Type 0
 IsCssFault d text fault.XPathLong = IsXPathLong d text
-IsCssFault d text f = IsFault (encode_utf8_all text) f
+IsCssFault d text f = IsFault text f
 
 abbrev pub IsCssRefused : Dialect → List ℕ → Reason → Type 0
-IsCssRefused d text (reason.Css f) = IsCssFault d text f
+IsCssRefused d text (reason.Css f) = IsCssFault d (encode_utf8_all text) f
 IsCssRefused d text _ = ⊥
 
 abbrev pub IsXPathRefused : Known → List ℕ → Reason → Type 0

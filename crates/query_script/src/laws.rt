@@ -1,5 +1,5 @@
 //! Laws of the definitions that the contracts cite.
-ghost use Rattle.query_script.specs.Laws.{HasFieldReason, HasOneCut, HasOneFault, HasOneReading, IsReadOrRefused, HasReading, QueriesRun, ReadsMore, TestsStored};
+ghost use Rattle.query_script.specs.Laws.{HasFieldReason, HasOneCut, HasOneFault, HasOneReading, IsReadOrRefused, HasReading, QueriesRun, ReadsMore, SelectorsAreTexts, TestsStored};
 
 /// Where tests are stored, each text reads as one list of fields or is refused as a whole, for one
 /// reason and not both.
@@ -33,4 +33,9 @@ pub fn reads_more()
 pub fn queries_run()
     ensures run { QueriesRun }
     ensures stored { TestsStored }
+{}
+
+/// The selectors of a script that is UTF-8 are UTF-8.
+pub fn selectors_are_texts()
+    ensures { SelectorsAreTexts }
 {}

@@ -16,7 +16,9 @@ mod strings;
 pub use chains::cut_steps;
 pub use cuts::{field_pieces, quote_after, trimmed, written};
 pub use fields::parse_field_with;
-pub use laws::{one_cut, queries_run, read_or_refused, reads_more, reasons_of_fields};
+pub use laws::{
+    one_cut, queries_run, read_or_refused, reads_more, reasons_of_fields, selectors_are_texts,
+};
 pub use names::name_and_rest;
 pub use parsing::{parse_script, parse_script_with};
 pub use queries::{Found, find_step};
