@@ -18,7 +18,7 @@ not_refused script.Fields h = omega (arith, h.many, five_fields)
 not_refused script.Memory h = h
 
 pub bulk_reads : Below → BulkLaw
-bulk_reads below = elim (below.some_script Html bulk_script) [
+bulk_reads below tests = elim (below.some_script tests Html bulk_script) [
   | inl read ↦ read
   | inr why ↦ absurd (not_refused why.0 why.1)
 ]

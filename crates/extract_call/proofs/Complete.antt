@@ -8,7 +8,8 @@ use Rattle.io_edges.specs.Sink.{grown, TakesPart}
 use Rattle.extract_call.specs.Answers.{Answer, bytes_of, line_bytes}
 use Rattle.extract_call.specs.Output.{names_of, answers, known, page_answers, HasAll, Written, Stopped, Completes, Lacking}
 use Rattle.extract_call.specs.Plans.{Plan, alone, over}
-use Rattle.extract_call.specs.Runs.{PagesAt, SinkAt, Counted, Run}
+use Rattle.extract_call.specs.Runs.{PagesAt, SinkAt, Run}
+use Rattle.extract_call.specs.inner.OnePage.{Counted}
 use Rattle.extract_call.proofs.Ended.{Ended}
 use Rattle.extract_call.proofs.OutputLemmas.{part_of_nothing, part_whole, not_all, answers_lacking}
 use Rattle.extract_call.proofs.Turns.{turn_alone, turn_of_nothing}
@@ -119,99 +120,7 @@ lacks (over line names) None b b' f f' taken taken' s s' status e nf ns = tt
 lacks (over line names) (Some told) b b' f f' taken taken' s s' status e nf ns = λ h.
     by_status_lacking (over line names) told taken taken' status (λ z. h (e.done z).there) (λ z. h (e.refused z).there) (λ z. all_before line names told b b' f f' taken taken' nf (e.read_fault z)) (λ z. ns (e.write_fault z)) e.used
 
--- ---- what is promised of a run
-
-pub run_of : {P : Type 0} (plan : Plan) (pages pages' : PagesAt P) (sink sink' : SinkAt) (status : Status)
-    → Ended plan pages.told pages.begun pages'.begun pages.faults pages'.faults sink.taken sink'.taken sink.faults sink'.faults status
-    → (names_of plan ≡ [] → pages'.pages ≡ pages.pages) → Run plan pages pages' sink sink' status
-run_of plan pages pages' sink sink' status e idle = record {
-  no_pages = λ none. (idle none, no_read_fault plan pages.told _ _ _ _ _ _ _ _ status e none);
-  prefix = e.prefix;
-  in_turn = e.in_turn;
-  done = e.done;
-  refused = e.refused;
-  begun = e.begun_all;
-  read_fault = e.read_fault;
-  complete = completes plan pages.told _ _ _ _ _ _ _ _ status e;
-  lacking = lacks plan pages.told _ _ _ _ _ _ _ _ status e;
-}
-
--- a run that left the pages alone, whatever pages they are
-pub run_at : {P : Type 0} (plan : Plan) (pages : PagesAt P) (sink sink' : SinkAt) (status : Status)
-    → ((none : PagesAt (Unit {0})) → Run plan none none sink sink' status) → Run plan pages pages sink sink' status
-run_at plan pages sink sink' status r =
-    let e : Run plan (record { pages = tt; told = pages.told; begun = pages.begun; faults = pages.faults }) (record { pages = tt; told = pages.told; begun = pages.begun; faults = pages.faults }) sink sink' status
-    = r (record { pages = tt; told = pages.told; begun = pages.begun; faults = pages.faults }) in
-    record {
-      no_pages = λ none. (refl, (e.no_pages none).1);
-      prefix = e.prefix;
-      in_turn = e.in_turn;
-      done = e.done;
-      refused = e.refused;
-      begun = e.begun;
-      read_fault = e.read_fault;
-      complete = e.complete;
-      lacking = e.lacking;
-    }
-
--- a run that found no memory before it began a page
-pub nothing_run : {P : Type 0} (law : TakingLaw) (plan : Plan) (pages : PagesAt P) (sink : SinkAt) → Run plan pages pages sink sink Memory
-nothing_run law plan pages sink = run_of plan pages pages sink sink Memory (nothing_written law plan pages.told pages.begun pages.faults sink.taken sink.faults) (λ none. refl)
-
--- a run without pages whose line was not written whole
-pub part_run : {P : Type 0} (law : TakingLaw) (made a : Answer) (pages : PagesAt P) (sink sink' : SinkAt) (status : Status) → made ≡ a → TakesPart sink.taken (line_bytes made) sink'.taken →
-    (status ≡ WriteFault → Rose sink.faults sink'.faults) → (status ≡ Done → ⊥) → (status ≡ Refused → ⊥) → (status ≡ Usage → ⊥) → (status ≡ ReadFault → ⊥) →
-    Run (alone a) pages pages sink sink' status
-part_run law made a pages sink sink' status same part wf nd nr nu nf =
-    run_of (alone a) pages pages sink sink' status
-    (alone_stopped law made a pages.told pages.begun pages.faults sink.taken sink'.taken sink.faults sink'.faults status part same wf nd nr nu nf) (λ none. refl)
-
--- and one whose line was written
-pub whole_run : {P : Type 0} (law : TakingLaw) (made a : Answer) (pages : PagesAt P) (sink sink' : SinkAt) (status : Status) → made ≡ a → sink'.taken ≡ grown sink.taken (line_bytes made) →
-    (status ≡ Done → made.refused ≡ false) → (status ≡ Refused → made.refused ≡ true) → (status ≡ Usage → ⊥) → (status ≡ ReadFault → ⊥) → (status ≡ WriteFault → ⊥) →
-    Run (alone a) pages pages sink sink' status
-whole_run law made a pages sink sink' status same all d r nu nf nw = run_of (alone a) pages pages sink sink' status written (λ none. refl)
-  where
-    taken : sink'.taken ≡ grown sink.taken (line_bytes a)
-    taken = subst (λ (x : Answer). sink'.taken ≡ grown sink.taken (line_bytes x)) same all
-
-    or_false : (b : Bool) → (b || false) ≡ b
-    or_false true = refl
-    or_false false = refl
-
-    by_truth : (b : Bool) → made.refused ≡ b → Written (alone a) [] sink.taken sink'.taken b
-    by_truth b e = record {
-      there = tt;
-      truth = or_false a.refused ∙ (ap (λ (x : Answer). x.refused) (sym same) ∙ e);
-      all = rw (append-nil (line_bytes a)) taken;
-    }
-
-    written : Ended (alone a) pages.told pages.begun pages.begun pages.faults pages.faults sink.taken sink'.taken sink.faults sink'.faults status
-    written = record {
-      prefix = rw (append-nil (line_bytes a)) (part_whole sink.taken sink'.taken (line_bytes a) taken);
-      done = λ z. by_truth false (d z);
-      refused = λ z. by_truth true (r z);
-      begun_all = λ z. omega arith;
-      read_fault = λ z. absurd (nf z);
-      in_turn = turn_alone law a pages.told sink.taken sink'.taken pages.begun (part_whole sink.taken sink'.taken (line_bytes a) taken);
-      write_fault = λ z. absurd (nw z);
-      used = nu;
-    }
-
--- the same of the counts
-pub counted_at : {P : Type 0} (pages : PagesAt P) (sink sink' : SinkAt) (status : Status)
-    → ((none : PagesAt (Unit {0})) → Counted none none sink sink' status) → Counted pages pages sink sink' status
-counted_at pages sink sink' status r =
-    let e : Counted (record { pages = tt; told = pages.told; begun = pages.begun; faults = pages.faults }) (record { pages = tt; told = pages.told; begun = pages.begun; faults = pages.faults }) sink sink' status
-    = r (record { pages = tt; told = pages.told; begun = pages.begun; faults = pages.faults }) in
-    record {
-      told = refl;
-      write_fault = e.write_fault;
-      page_faults = e.page_faults;
-      sink_faults = e.sink_faults;
-      pages_uncounted = λ other. refl;
-      sink_uncounted = e.sink_uncounted;
-    }
+-- ---- what the counts say
 
 -- nothing was touched
 pub untouched : {P : Type 0} (pages : PagesAt P) (sink : SinkAt) (status : Status) → (status ≡ WriteFault → ⊥) → Counted pages pages sink sink status
@@ -247,3 +156,108 @@ counted_then pages pages' sink sink' status read never_falls uncounted write_fau
   pages_uncounted = λ z. read.pages_uncounted (λ e. cc);
   sink_uncounted = uncounted;
 }
+
+-- what was counted of a page after others that met no fault
+pub counted_after : {P : Type 0} (pages mid pages' : PagesAt P) (sink turn sink' : SinkAt) (status : Status) → mid.told ≡ pages.told → mid.faults ≡ pages.faults → turn.faults ≡ sink.faults
+    → Counted mid pages' turn sink' status → Counted pages pages' sink sink' status
+counted_after pages mid pages' sink turn sink' status told same_pages same_sink h = record {
+  told = h.told ∙ told;
+  write_fault = λ z. subst (λ n. Rose n sink'.faults) same_sink (h.write_fault z);
+  page_faults = omega (arith, same_pages, h.page_faults);
+  sink_faults = omega (arith, same_sink, h.sink_faults);
+  pages_uncounted = λ z. h.pages_uncounted z ∙ same_pages;
+  sink_uncounted = λ z. h.sink_uncounted z ∙ same_sink;
+}
+
+-- ---- what is promised of a run
+
+pub run_of : {P : Type 0} (plan : Plan) (pages pages' : PagesAt P) (sink sink' : SinkAt) (status : Status)
+    → Ended plan pages.told pages.begun pages'.begun pages.faults pages'.faults sink.taken sink'.taken sink.faults sink'.faults status
+    → Counted pages pages' sink sink' status → (names_of plan ≡ [] → pages'.pages ≡ pages.pages) → Run plan pages pages' sink sink' status
+run_of plan pages pages' sink sink' status e counts idle = record {
+  no_pages = λ none. (idle none, no_read_fault plan pages.told _ _ _ _ _ _ _ _ status e none);
+  prefix = e.prefix;
+  in_turn = e.in_turn;
+  done = e.done;
+  refused = e.refused;
+  begun = e.begun_all;
+  read_fault = e.read_fault;
+  complete = completes plan pages.told _ _ _ _ _ _ _ _ status e;
+  lacking = lacks plan pages.told _ _ _ _ _ _ _ _ status e;
+  told = counts.told;
+  write_fault = counts.write_fault;
+  page_faults = counts.page_faults;
+  sink_faults = counts.sink_faults;
+  pages_uncounted = counts.pages_uncounted;
+  sink_uncounted = counts.sink_uncounted;
+}
+
+-- a run that left the pages alone, whatever pages they are
+pub run_at : {P : Type 0} (plan : Plan) (pages : PagesAt P) (sink sink' : SinkAt) (status : Status)
+    → ((none : PagesAt (Unit {0})) → Run plan none none sink sink' status) → Run plan pages pages sink sink' status
+run_at plan pages sink sink' status r =
+    let e : Run plan (record { pages = tt; told = pages.told; begun = pages.begun; faults = pages.faults }) (record { pages = tt; told = pages.told; begun = pages.begun; faults = pages.faults }) sink sink' status
+    = r (record { pages = tt; told = pages.told; begun = pages.begun; faults = pages.faults }) in
+    record {
+      no_pages = λ none. (refl, (e.no_pages none).1);
+      prefix = e.prefix;
+      in_turn = e.in_turn;
+      done = e.done;
+      refused = e.refused;
+      begun = e.begun;
+      read_fault = e.read_fault;
+      complete = e.complete;
+      lacking = e.lacking;
+      told = refl;
+      write_fault = e.write_fault;
+      page_faults = e.page_faults;
+      sink_faults = e.sink_faults;
+      pages_uncounted = λ other. refl;
+      sink_uncounted = e.sink_uncounted;
+    }
+
+-- a run that found no memory before it began a page
+pub nothing_run : {P : Type 0} (law : TakingLaw) (plan : Plan) (pages : PagesAt P) (sink : SinkAt) → Run plan pages pages sink sink Memory
+nothing_run law plan pages sink =
+    run_of plan pages pages sink sink Memory (nothing_written law plan pages.told pages.begun pages.faults sink.taken sink.faults) (untouched pages sink Memory (λ z. cc)) (λ none. refl)
+
+-- a run without pages whose line was not written whole
+pub part_run : {P : Type 0} (law : TakingLaw) (made a : Answer) (pages : PagesAt P) (sink sink' : SinkAt) (status : Status) → made ≡ a → TakesPart sink.taken (line_bytes made) sink'.taken →
+    Counted pages pages sink sink' status → (status ≡ Done → ⊥) → (status ≡ Refused → ⊥) → (status ≡ Usage → ⊥) → (status ≡ ReadFault → ⊥) →
+    Run (alone a) pages pages sink sink' status
+part_run law made a pages sink sink' status same part counts nd nr nu nf =
+    run_of (alone a) pages pages sink sink' status
+    (alone_stopped law made a pages.told pages.begun pages.faults sink.taken sink'.taken sink.faults sink'.faults status part same counts.write_fault nd nr nu nf) counts (λ none. refl)
+
+-- and one whose line was written
+pub whole_run : {P : Type 0} (law : TakingLaw) (made a : Answer) (pages : PagesAt P) (sink sink' : SinkAt) (status : Status) → made ≡ a → sink'.taken ≡ grown sink.taken (line_bytes made) →
+    sink'.faults ≡ sink.faults → (status ≡ Done → made.refused ≡ false) → (status ≡ Refused → made.refused ≡ true) → (status ≡ Usage → ⊥) → (status ≡ ReadFault → ⊥) → (status ≡ WriteFault → ⊥) →
+    Run (alone a) pages pages sink sink' status
+whole_run law made a pages sink sink' status same all uncounted d r nu nf nw =
+    run_of (alone a) pages pages sink sink' status written (unfaulted pages pages sink sink' status refl refl uncounted nw) (λ none. refl)
+  where
+    taken : sink'.taken ≡ grown sink.taken (line_bytes a)
+    taken = subst (λ (x : Answer). sink'.taken ≡ grown sink.taken (line_bytes x)) same all
+
+    or_false : (b : Bool) → (b || false) ≡ b
+    or_false true = refl
+    or_false false = refl
+
+    by_truth : (b : Bool) → made.refused ≡ b → Written (alone a) [] sink.taken sink'.taken b
+    by_truth b e = record {
+      there = tt;
+      truth = or_false a.refused ∙ (ap (λ (x : Answer). x.refused) (sym same) ∙ e);
+      all = rw (append-nil (line_bytes a)) taken;
+    }
+
+    written : Ended (alone a) pages.told pages.begun pages.begun pages.faults pages.faults sink.taken sink'.taken sink.faults sink'.faults status
+    written = record {
+      prefix = rw (append-nil (line_bytes a)) (part_whole sink.taken sink'.taken (line_bytes a) taken);
+      done = λ z. by_truth false (d z);
+      refused = λ z. by_truth true (r z);
+      begun_all = λ z. omega arith;
+      read_fault = λ z. absurd (nf z);
+      in_turn = turn_alone law a pages.told sink.taken sink'.taken pages.begun (part_whole sink.taken sink'.taken (line_bytes a) taken);
+      write_fault = λ z. absurd (nw z);
+      used = nu;
+    }

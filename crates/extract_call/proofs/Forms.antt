@@ -8,7 +8,7 @@ use Rattle.std.proofs.lemmas.Slice.Eq.{bytes_eq-Decides}
 use Rattle.text_base.specs.Text.{is_digit, digits_value}
 use Rattle.css_selectors.specs.declared.selector.Dialect.{Dialect}
 use Rattle.css_selectors.specs.declared.selector.Dialect.TheVariants.{Generic, Html}
-use Rattle.extract_call.specs.Words.{Command, css, run, bulk, IsWords, IsCount, count_of, dialect_of, dialect_word, read}
+use Rattle.extract_call.specs.Words.{Command, css, run, bulk, clean, IsWords, IsCount, count_of, dialect_of, dialect_word, read}
 use Rattle.extract_call.specs.Laws.{WordsLaw}
 use Rattle.extract_call.proofs.Counts.{count_read}
 
@@ -67,21 +67,31 @@ count_said word n h = from_tests (all_true (nat_le 1 (length word)) (nat_le (len
 count_back : (word : List ℕ) (n : ℕ) → IsCount word n → count_of word ≡ Some n
 count_back word n h = sym (count_read word h.some h.few h.digits (rw h.value h.least) (rw h.value h.most)) ∙ ap Some h.value
 
-bulk_said : (w n : List ℕ) (command : Command) → read (w ∷ n ∷ []) ≡ Some command → IsWords command (w ∷ n ∷ [])
-bulk_said w n command h = by_tests (bytes_eq w (codes "bulk")) refl (count_of n) refl h
+two_said : (w n : List ℕ) (command : Command) → read (w ∷ n ∷ []) ≡ Some command → IsWords command (w ∷ n ∷ [])
+two_said w n command h = by_tests (bytes_eq w (codes "bulk")) refl (count_of n) refl (bytes_eq w (codes "clean")) refl h
   where
     counted : (k : ℕ) → bytes_eq w (codes "bulk") ≡ true → count_of n ≡ Some k → (c : Command) → bulk k ≡ c → IsWords c (w ∷ n ∷ [])
     counted k p q (css d s) e = let x = e in cc
     counted k p q (run d s names) e = let x = e in cc
+    counted k p q (clean page) e = let x = e in absurd (cc)
     counted k p q (bulk m) e =
         let same : k ≡ m = (let x = e in cc) in
         (n, ap (λ v. v ∷ n ∷ []) ((bytes_eq-Decides w (codes "bulk")).0 p), count_said n m (q ∙ ap Some same))
 
-    by_tests : (a : Bool) → bytes_eq w (codes "bulk") ≡ a → (o : Option ℕ) → count_of n ≡ o
-        → (if a then option_map bulk o else None) ≡ Some command → IsWords command (w ∷ n ∷ [])
-    by_tests true p (Some k) q e = counted k p q command (let x = e in cc)
-    by_tests true p None q e = let x = e in absurd (cc)
-    by_tests false p o q e = let x = e in absurd (cc)
+    kept : bytes_eq w (codes "clean") ≡ true → (c : Command) → clean n ≡ c → IsWords c (w ∷ n ∷ [])
+    kept p (css d s) e = let x = e in absurd (cc)
+    kept p (run d s names) e = let x = e in absurd (cc)
+    kept p (bulk m) e = let x = e in absurd (cc)
+    kept p (clean page) e =
+        let same : n ≡ page = (let x = e in cc) in
+        ap (λ v. v ∷ n ∷ []) ((bytes_eq-Decides w (codes "clean")).0 p) ∙ ap (λ v. codes "clean" ∷ v ∷ []) same
+
+    by_tests : (a : Bool) → bytes_eq w (codes "bulk") ≡ a → (o : Option ℕ) → count_of n ≡ o → (b : Bool) → bytes_eq w (codes "clean") ≡ b
+        → (if a then option_map bulk o else (if b then Some (clean n) else None)) ≡ Some command → IsWords command (w ∷ n ∷ [])
+    by_tests true p (Some k) q b r e = counted k p q command (let x = e in cc)
+    by_tests true p None q b r e = let x = e in absurd (cc)
+    by_tests false p o q true r e = kept r command (let x = e in cc)
+    by_tests false p o q false r e = let x = e in absurd (cc)
 
 css_said : (w d s : List ℕ) (command : Command) → read (w ∷ d ∷ s ∷ []) ≡ Some command → IsWords command (w ∷ d ∷ s ∷ [])
 css_said w d s command h = by_tests (bytes_eq w (codes "css")) refl (dialect_of d) refl h
@@ -94,6 +104,7 @@ css_said w d s command h = by_tests (bytes_eq w (codes "css")) refl (dialect_of 
         ∙ ap (λ v. codes "css" ∷ dialect_word y ∷ v ∷ []) two
     spelled x p q (run y t names) e = let z = e in absurd (cc)
     spelled x p q (bulk n) e = let z = e in absurd (cc)
+    spelled x p q (clean page) e = let z = e in absurd (cc)
 
     by_tests : (a : Bool) → bytes_eq w (codes "css") ≡ a → (o : Option Dialect) → dialect_of d ≡ o
         → (if a then option_map (λ x. css x s) o else None) ≡ Some command → IsWords command (w ∷ d ∷ s ∷ [])
@@ -115,6 +126,7 @@ run_said w d s n ns command h = by_tests (bytes_eq w (codes "run")) refl (dialec
           λ none. let z = none in cc,
         )
     spelled x p q (bulk k) e = let z = e in absurd (cc)
+    spelled x p q (clean page) e = let z = e in absurd (cc)
 
     by_tests : (a : Bool) → bytes_eq w (codes "run") ≡ a → (o : Option Dialect) → dialect_of d ≡ o
         → (if a then option_map (λ x. run x s (n ∷ ns)) o else None) ≡ Some command → IsWords command (w ∷ d ∷ s ∷ n ∷ ns)
@@ -125,7 +137,7 @@ run_said w d s n ns command h = by_tests (bytes_eq w (codes "run")) refl (dialec
 read_words : (words : List (List ℕ)) (command : Command) → read words ≡ Some command → IsWords command words
 read_words [] command h = let x = h in absurd (cc)
 read_words (w ∷ []) command h = let x = h in absurd (cc)
-read_words (w ∷ n ∷ []) command h = bulk_said w n command h
+read_words (w ∷ n ∷ []) command h = two_said w n command h
 read_words (w ∷ d ∷ s ∷ []) command h = css_said w d s command h
 read_words (w ∷ d ∷ s ∷ n ∷ ns) command h = run_said w d s n ns command h
 
@@ -137,6 +149,7 @@ words_back : (words : List (List ℕ)) (command : Command) → IsWords command w
 words_back words (css d s) h = ap read h ∙ ap (option_map (λ x. css x s)) (word_dialect d)
 words_back words (run d s names) h = ap read h.0 ∙ run_back d s names h.1
 words_back words (bulk n) h = ap read h.1 ∙ ap (option_map bulk) (count_back h.0 n h.2)
+words_back words (clean page) h = ap read h
 
 pub words_read : WordsLaw
 words_read words command = (read_words words command, words_back words command)

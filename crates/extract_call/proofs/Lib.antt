@@ -4,6 +4,7 @@ pub mod Complete
 pub mod Counts
 pub mod Ended
 pub mod Forms
+pub mod Meaning
 pub mod OutputLemmas
 pub mod PageAnswers
 pub mod PageBytes
@@ -14,5 +15,5 @@ pub mod Plans
 pub mod Readings
 pub mod Tasks
 pub mod Turns
-pub mod ValueLemmas
+pub mod Utf8
 pub mod Walk

@@ -1,6 +1,6 @@
--- Each page has a line by ordered fields.
+-- Each page has a line by ordered fields, and one that is its canonical markup.
 use Rattle.std.proofs.Common.{◌≡◌, refl, ℕ, ◌<◌, ◌≤◌, List, [], ◌∷◌, length, inl, inr, ◌⊎◌}
-use Rattle.std.specs.Prelude.{Result, Ok, Err, true}
+use Rattle.std.specs.Prelude.{Result, Ok, Err, true, false, encode_utf8_all}
 use Rattle.std.specs.List.{AllByRecursion, list_any}
 use Rattle.text_base.specs.declared.reasons.PageFault.{PageFault}
 use Rattle.text_base.specs.Decoding.{decoded}
@@ -8,12 +8,14 @@ use Rattle.doc_model.specs.Document.{Document}
 use Rattle.html_reader.specs.PageLaws.{PageAnswer}
 use Rattle.query_script.specs.declared.script.Field.{Field}
 use Rattle.query_script.specs.declared.script.FieldValue.{FieldValue}
-use Rattle.query_script.specs.Ordered.{IsOrdered}
-use Rattle.query_chain.specs.Chains.{IsValue}
+use Rattle.test_registry.specs.Names.{Known}
+use Rattle.query_script.specs.Ordered.{IsOrderedOver}
+use Rattle.query_chain.specs.Chains.{IsValueOver}
 use Rattle.json_lines.specs.Pages.{page_text, refused_text}
+use Rattle.markup_out.specs.Markup.{canonical}
 use Rattle.extract_call.specs.inner.Below.{Below}
 use Rattle.extract_call.specs.Answers.{Answer}
-use Rattle.extract_call.specs.PageLines.{most_page, too_long, AreValues, is_refused, IsPageLine, IsValuesLine, MakesLines}
+use Rattle.extract_call.specs.PageLines.{most_page, too_long, AreValues, is_refused, IsPageLine, IsValuesLine, IsMarkupLine, MakesLines}
 use Rattle.extract_call.proofs.Readings.{within_or_past}
 
 -- a document shows a line
@@ -41,22 +43,35 @@ module _ (below : Below) (shows : List ℕ → Document → Answer → Type 0) (
   of_size (inr long) =
       (record { text = refused_text name too_long; refused = true }, inl (record { fault = too_long; cause = inl (record { long = long; is = refl }); line = refl }))
 
+some_markup_line : ShowsSome IsMarkupLine
+some_markup_line name doc = (record { text = encode_utf8_all (canonical doc); refused = false }, refl)
+
 module _ (below : Below) where
-  some_values : (doc : Document) (fields : List Field) → AllByRecursion IsOrdered fields → (values : List FieldValue) × AreValues doc fields values
-  some_values doc [] h = ([], tt)
-  some_values doc (f ∷ fields) h =
-      let first : (v : FieldValue) × IsValue doc f v = below.some_value doc f h.0 in
-      let rest : (values : List FieldValue) × AreValues doc fields values = some_values doc fields h.1 in
+  a_line : (shows : List ℕ → Document → Answer → Type 0) → ShowsSome shows → (name bytes : List ℕ) → (a : Answer) × IsPageLine shows name bytes a
+  a_line shows some name bytes = of_size below shows some name bytes (within_or_past (length bytes) most_page)
+
+  lines : (shows : List ℕ → Document → Answer → Type 0) → ShowsSome shows → (line : List ℕ → List ℕ → Answer) × MakesLines shows line
+  lines shows some = (λ name bytes. (a_line shows some name bytes).0, λ name bytes. (a_line shows some name bytes).1)
+
+  -- there is what makes the canonical markup of pages
+  pub makes_markup : (line : List ℕ → List ℕ → Answer) × MakesLines IsMarkupLine line
+  makes_markup = lines IsMarkupLine some_markup_line
+
+  some_values : (tests : Known) (doc : Document) (fields : List Field) → AllByRecursion (IsOrderedOver tests) fields → (values : List FieldValue) × AreValues tests doc fields values
+  some_values tests doc [] h = ([], tt)
+  some_values tests doc (f ∷ fields) h =
+      let first : (v : FieldValue) × IsValueOver tests doc f v = below.some_value tests doc 0 f h.0 in
+      let rest : (values : List FieldValue) × AreValues tests doc fields values = some_values tests doc fields h.1 in
       (first.0 ∷ rest.0, (first.1, rest.1))
 
-  some_values_line : (fields : List Field) → AllByRecursion IsOrdered fields → ShowsSome (IsValuesLine fields)
-  some_values_line fields ordered name doc =
-      let values : (vs : List FieldValue) × AreValues doc fields vs = some_values doc fields ordered in
+  some_values_line : (tests : Known) (fields : List Field) → AllByRecursion (IsOrderedOver tests) fields → ShowsSome (IsValuesLine tests fields)
+  some_values_line tests fields ordered name doc =
+      let values : (vs : List FieldValue) × AreValues tests doc fields vs = some_values tests doc fields ordered in
       (record { text = page_text name fields values.0; refused = list_any is_refused values.0 }, record { values = values.0; are = values.1; line = refl })
 
-  pub a_page_line : (fields : List Field) → AllByRecursion IsOrdered fields → (name bytes : List ℕ) → (a : Answer) × IsPageLine (IsValuesLine fields) name bytes a
-  a_page_line fields ordered name bytes = of_size below (IsValuesLine fields) (some_values_line fields ordered) name bytes (within_or_past (length bytes) most_page)
+  pub a_page_line : (tests : Known) (fields : List Field) → AllByRecursion (IsOrderedOver tests) fields → (name bytes : List ℕ) → (a : Answer) × IsPageLine (IsValuesLine tests fields) name bytes a
+  a_page_line tests fields ordered = a_line (IsValuesLine tests fields) (some_values_line tests fields ordered)
 
-  -- and so there is what makes the lines
-  pub makes_lines : (fields : List Field) → AllByRecursion IsOrdered fields → (line : List ℕ → List ℕ → Answer) × MakesLines (IsValuesLine fields) line
-  makes_lines fields ordered = (λ name bytes. (a_page_line fields ordered name bytes).0, λ name bytes. (a_page_line fields ordered name bytes).1)
+  -- and there is what makes the lines of pages by the fields
+  pub makes_lines : (tests : Known) (fields : List Field) → AllByRecursion (IsOrderedOver tests) fields → (line : List ℕ → List ℕ → Answer) × MakesLines (IsValuesLine tests fields) line
+  makes_lines tests fields ordered = lines (IsValuesLine tests fields) (some_values_line tests fields ordered)

@@ -1,20 +1,25 @@
 -- A page has one line.
 use Rattle.std.proofs.Common.{◌≡◌, refl, ℕ, List, [], ◌∷◌, length, ap, ap₂, sym, ◌∙◌, subst, arith, inl, inr, ◌≤◌, ◌<◌}
 use Rattle.std.specs.Prelude.{Result, IfOk, true}
+use Rattle.std.proofs.Math.Path.{fun_ext}
 use Rattle.std.proofs.lemmas.Result.{IfOk-weaker}
 use Rattle.text_base.specs.declared.memory.NoMemory.{NoMemory}
 use Rattle.std.specs.List.{list_any}
 use Rattle.text_base.specs.declared.reasons.PageFault.{PageFault}
 use Rattle.doc_model.specs.Document.{Document}
 use Rattle.html_reader.specs.Pages.{BuildsPage, IsPageFault}
+use Rattle.test_registry.specs.Names.{Known}
 use Rattle.query_script.specs.declared.script.Field.{Field}
 use Rattle.query_script.specs.declared.script.FieldValue.{FieldValue}
 use Rattle.json_lines.specs.Pages.{page_text, refused_text}
 use Rattle.extract_call.specs.declared.answers.Line.{Line}
+use Rattle.extract_call.specs.declared.asked.Asked.{Asked}
+use Rattle.extract_call.specs.declared.asked.Asked.TheVariants.{Values, Markup}
 use Rattle.extract_call.specs.Answers.{Answer, answer_of}
+use Rattle.extract_call.specs.inner.Asked.{shown_by}
 use Rattle.extract_call.specs.inner.Below.{Below}
-use Rattle.extract_call.specs.OnePage.{IsTextLine}
-use Rattle.extract_call.specs.PageLines.{most_page, too_long, IsNoTree, IsPageRefused, AreValues, is_refused, IsShownLine, IsValuesLine, IsPageLine}
+use Rattle.extract_call.specs.inner.OnePage.{IsTextLine}
+use Rattle.extract_call.specs.PageLines.{most_page, too_long, IsNoTree, IsPageRefused, AreValues, is_refused, IsShownLine, IsValuesLine, IsMarkupLine, IsPageLine, MakesLines}
 
 same_fault : (f g : PageFault) → f.reason ≡ g.reason → f.at ≡ g.at → f ≡ g
 same_fault f g p q = ap₂ (λ r a. record { reason = r; at = a }) p q
@@ -24,15 +29,17 @@ abbrev pub ShowsOne : (List ℕ → Document → Answer → Type 0) → Type 0
 ShowsOne shows = (name : List ℕ) (doc : Document) (a b : Answer) → shows name doc a → shows name doc b → a ≡ b
 
 -- the line of a page with too many bytes
-pub long_line : (fields : List Field) (name bytes : List ℕ) (made : Result Line NoMemory) → most_page < length bytes
-    → IfOk made (λ l. answer_of l ≡ record { text = refused_text name too_long; refused = true }) → IfOk made (λ l. IsPageLine (IsValuesLine fields) name bytes (answer_of l))
-long_line fields name bytes made long h = IfOk-weaker made _ _ (λ l e. inl (record { fault = too_long; cause = inl (record { long = long; is = refl }); line = e })) h
+pub long_line : (shows : List ℕ → Document → Answer → Type 0) (name bytes : List ℕ) (made : Result Line NoMemory) → most_page < length bytes
+    → IfOk made (λ l. answer_of l ≡ record { text = refused_text name too_long; refused = true }) → IfOk made (λ l. IsPageLine shows name bytes (answer_of l))
+long_line shows name bytes made long h = IfOk-weaker made _ _ (λ l e. inl (record { fault = too_long; cause = inl (record { long = long; is = refl }); line = e })) h
 
 -- the line of a document that was read of the text
-pub built_line : (fields : List Field) (name text : List ℕ) (made : Result Line NoMemory) (kept doc : Document) → kept ≡ doc → BuildsPage text doc
-    → IfOk made (λ l. IsValuesLine fields name kept (answer_of l)) → IfOk made (λ l. IsTextLine (IsValuesLine fields) name text (answer_of l))
-built_line fields name text made kept doc same builds h =
-    IfOk-weaker made _ _ (λ l is. inr (record { doc = kept; builds = subst (λ x. BuildsPage text x) (sym same) builds; shown = is })) h
+pub built_line : (shows : List ℕ → Document → Answer → Type 0) (name text : List ℕ) (made : Result Line NoMemory) (doc : Document) → BuildsPage text doc
+    → IfOk made (λ l. shows name doc (answer_of l)) → IfOk made (λ l. IsTextLine shows name text (answer_of l))
+built_line shows name text made doc builds h = IfOk-weaker made _ _ (λ l is. inr (record { doc = doc; builds = builds; shown = is })) h
+
+one_markup_line : ShowsOne IsMarkupLine
+one_markup_line name doc a b h k = h ∙ sym k
 
 -- ---- what follows from what the crates below promise
 
@@ -63,17 +70,17 @@ module _ (below : Below) where
       let t : k.text ≡ h.text = (let x = h.decodes in let y = k.decodes in cc) in
       below.page_never_both h.text k.doc f.reason f.at (subst (λ x. BuildsPage x k.doc) t k.builds) h.is
 
-  one_values : (doc : Document) (fields : List Field) (values other : List FieldValue) → AreValues doc fields values → AreValues doc fields other → values ≡ other
-  one_values doc [] [] [] h k = refl
-  one_values doc [] [] (w ∷ other) h k = absurd k
-  one_values doc [] (v ∷ values) other h k = absurd h
-  one_values doc (f ∷ fields) [] other h k = absurd h
-  one_values doc (f ∷ fields) (v ∷ values) [] h k = absurd k
-  one_values doc (f ∷ fields) (v ∷ values) (w ∷ other) h k = ap₂ ◌∷◌ (below.one_value doc f v w h.0 k.0) (one_values doc fields values other h.1 k.1)
+  one_values : (tests : Known) (doc : Document) (fields : List Field) (values other : List FieldValue) → AreValues tests doc fields values → AreValues tests doc fields other → values ≡ other
+  one_values tests doc [] [] [] h k = refl
+  one_values tests doc [] [] (w ∷ other) h k = absurd k
+  one_values tests doc [] (v ∷ values) other h k = absurd h
+  one_values tests doc (f ∷ fields) [] other h k = absurd h
+  one_values tests doc (f ∷ fields) (v ∷ values) [] h k = absurd k
+  one_values tests doc (f ∷ fields) (v ∷ values) (w ∷ other) h k = ap₂ ◌∷◌ (below.one_value tests doc 0 f v w h.0 k.0) (one_values tests doc fields values other h.1 k.1)
 
-  pub one_values_line : (fields : List Field) → ShowsOne (IsValuesLine fields)
-  one_values_line fields name doc a b h k =
-      h.line ∙ ap (λ vs. record { text = page_text name fields vs; refused = list_any is_refused vs }) (one_values doc fields h.values k.values h.are k.are) ∙ sym k.line
+  one_values_line : (tests : Known) (fields : List Field) → ShowsOne (IsValuesLine tests fields)
+  one_values_line tests fields name doc a b h k =
+      h.line ∙ ap (λ vs. record { text = page_text name fields vs; refused = list_any is_refused vs }) (one_values tests doc fields h.values k.values h.are k.are) ∙ sym k.line
 
   shown_lines : (shows : List ℕ → Document → Answer → Type 0) → ShowsOne shows → (name bytes : List ℕ) (a b : Answer) → IsShownLine shows name bytes a → IsShownLine shows name bytes b → a ≡ b
   shown_lines shows one name bytes a b h k =
@@ -88,5 +95,19 @@ module _ (below : Below) where
   line_of_page shows one name bytes a b (inr h) (inl k) = absurd (refused_or_read shows name bytes k.fault a k.cause h)
   line_of_page shows one name bytes a b (inr h) (inr k) = shown_lines shows one name bytes a b h k
 
-  pub one_page_line : (fields : List Field) (name bytes : List ℕ) (a b : Answer) → IsPageLine (IsValuesLine fields) name bytes a → IsPageLine (IsValuesLine fields) name bytes b → a ≡ b
-  one_page_line fields = line_of_page (IsValuesLine fields) (one_values_line fields)
+  pub one_page_line : (tests : Known) (fields : List Field) (name bytes : List ℕ) (a b : Answer) → IsPageLine (IsValuesLine tests fields) name bytes a → IsPageLine (IsValuesLine tests fields) name bytes b → a ≡ b
+  one_page_line tests fields = line_of_page (IsValuesLine tests fields) (one_values_line tests fields)
+
+  pub one_asked_line : (tests : Known) (asked : Asked) (name bytes : List ℕ) (a b : Answer) → IsPageLine (shown_by tests asked) name bytes a → IsPageLine (shown_by tests asked) name bytes b → a ≡ b
+  one_asked_line tests (Values fields ready) = one_page_line tests fields.now
+  one_asked_line tests Markup = line_of_page IsMarkupLine one_markup_line
+
+  -- what makes the lines of pages by what their documents show is one function
+  same_lines : (shows : List ℕ → Document → Answer → Type 0) → ShowsOne shows → (l m : List ℕ → List ℕ → Answer) → MakesLines shows l → MakesLines shows m → l ≡ m
+  same_lines shows one l m h k = fun_ext (λ name. fun_ext (λ bytes. line_of_page shows one name bytes (l name bytes) (m name bytes) (h name bytes) (k name bytes)))
+
+  pub same_values_lines : (tests : Known) (fields : List Field) (l m : List ℕ → List ℕ → Answer) → MakesLines (IsValuesLine tests fields) l → MakesLines (IsValuesLine tests fields) m → l ≡ m
+  same_values_lines tests fields = same_lines (IsValuesLine tests fields) (one_values_line tests fields)
+
+  pub same_markup_lines : (l m : List ℕ → List ℕ → Answer) → MakesLines IsMarkupLine l → MakesLines IsMarkupLine m → l ≡ m
+  same_markup_lines = same_lines IsMarkupLine one_markup_line

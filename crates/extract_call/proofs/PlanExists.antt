@@ -1,32 +1,42 @@
--- Each command whose queries can be run has a plan.
-use Rattle.std.proofs.Common.{refl, ℕ, true, List, ◌++◌, codes, inl, inr, ◌⊎◌}
+-- Each command whose words are UTF-8 has a plan.
+use Rattle.std.proofs.Common.{refl, ℕ, true, List, [], ◌∷◌, ◌++◌, codes, inl, inr, ◌⊎◌, ◌≡◌, subst}
+use Rattle.std.specs.List.{AllByRecursion}
+use Rattle.std.specs.Str.{IsUtf8}
 use Rattle.text_base.specs.declared.reasons.ScriptFault.{ScriptFault}
 use Rattle.text_base.specs.Reasons.{script_word}
+use Rattle.test_registry.specs.Names.{Known}
 use Rattle.css_selectors.specs.declared.selector.Dialect.{Dialect}
+use Rattle.css_selectors.specs.declared.selector.Dialect.TheVariants.{Html}
 use Rattle.query_script.specs.declared.script.Field.{Field}
-use Rattle.query_script.specs.Fields.{IsScript, IsScriptFault}
+use Rattle.query_script.specs.Fields.{IsScriptOver, IsScriptFault}
 use Rattle.json_lines.specs.Lines.{reason_text}
 use Rattle.extract_call.specs.inner.Below.{Below}
-use Rattle.extract_call.specs.Bulk.{bulk_text}
-use Rattle.extract_call.specs.Laws.{HasQueries, SomePlan}
+use Rattle.extract_call.specs.Bulk.{bulk_script, bulk_text}
+use Rattle.extract_call.specs.Laws.{SomePlan}
 use Rattle.extract_call.specs.Plans.{Plan, alone, over, IsPlan}
-use Rattle.extract_call.specs.Words.{css, run, bulk}
+use Rattle.extract_call.specs.Words.{Command, css, run, bulk, clean, IsWords}
 use Rattle.extract_call.proofs.BulkFields.{bulk_reads}
-use Rattle.extract_call.proofs.PageExists.{a_page_line, makes_lines}
+use Rattle.extract_call.proofs.PageExists.{a_page_line, makes_lines, makes_markup}
 use Rattle.extract_call.proofs.Plans.{some_line}
+use Rattle.extract_call.proofs.Utf8.{script_word_is, bulk_script_is}
 
-module _ (below : Below) where
-  run_plan : (d : Dialect) (s : List ℕ) (names : List (List ℕ)) → HasQueries d s → ((fields : List Field) × IsScript d s fields) ⊎ ((fault : ScriptFault) × IsScriptFault s fault)
-      → (plan : Plan) × IsPlan (run d s names) plan
-  run_plan d s names ordered (inl read) =
-      let line = makes_lines below read.0 (ordered read.0 read.1) in
+module _ (below : Below) (tests : Known) where
+  run_plan : (d : Dialect) (s : List ℕ) (names : List (List ℕ)) → IsUtf8 s → ((fields : List Field) × IsScriptOver tests d s fields) ⊎ ((fault : ScriptFault) × IsScriptFault s fault)
+      → (plan : Plan) × IsPlan tests (run d s names) plan
+  run_plan d s names utf8 (inl read) =
+      let line = makes_lines below tests read.0 (below.queries_run tests d s read.0 utf8 read.1) in
       (over line.0 names, (refl, record { fields = read.0; reads = read.1; makes = line.1 }))
-  run_plan d s names ordered (inr why) =
+  run_plan d s names utf8 (inr why) =
       (alone (record { text = reason_text (codes "script." ++ script_word why.0); refused = true }), record { why = why.0; cause = why.1; line = refl })
 
-  pub some_plan : SomePlan
-  some_plan (css d s) h = let line = some_line below d s in (alone line.0, line.1)
-  some_plan (run d s names) h = run_plan d s names h (below.some_script d s)
-  some_plan (bulk n) h =
-      let line = a_page_line below (bulk_reads below).0 (h (bulk_reads below).0 (bulk_reads below).1) (codes "bulk") (bulk_text n) in
-      (alone line.0, inr (record { fields = (bulk_reads below).0; reads = (bulk_reads below).1; line = line.1 }))
+  plan_of : (words : List (List ℕ)) (command : Command) → AllByRecursion IsUtf8 words → IsWords command words → (plan : Plan) × IsPlan tests command plan
+  plan_of words (css d s) utf8 is = let line = some_line below d s in (alone line.0, line.1)
+  plan_of words (run d s names) utf8 is = run_plan d s names (script_word_is words d s names utf8 is.0) (below.some_script tests d s)
+  plan_of words (bulk n) utf8 is =
+      let fields = bulk_reads below tests in
+      let line = a_page_line below tests fields.0 (below.queries_run tests Html bulk_script fields.0 bulk_script_is fields.1) (codes "bulk") (bulk_text n) in
+      (alone line.0, inr (record { fields = fields.0; reads = fields.1; line = line.1 }))
+  plan_of words (clean page) utf8 is = let line = makes_markup below in (over line.0 (page ∷ []), (refl, line.1))
+
+pub some_plan : Below → SomePlan
+some_plan below tests = plan_of below tests

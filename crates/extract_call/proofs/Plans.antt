@@ -1,53 +1,46 @@
 -- Each command has one plan at most.
-use Rattle.std.proofs.Common.{◌≡◌, refl, ℕ, ◌<◌, ◌≤◌, true, false, List, ◌++◌, length, ap, ap₂, sym, ◌∙◌, subst, Option, Some, None, arith, inl, inr, ◌⊎◌, codes}
-use Rattle.std.specs.Prelude.{Result, IfOk, IsOkAnd, Ok, Err}
-use Rattle.std.specs.List.{AllByRecursion}
-use Rattle.query_script.specs.Ordered.{IsOrdered}
-use Rattle.std.proofs.Math.Path.{fun_ext}
+use Rattle.std.proofs.Common.{◌≡◌, refl, ℕ, ◌<◌, ◌≤◌, true, false, List, [], ◌∷◌, ◌++◌, length, ap, ap₂, sym, ◌∙◌, subst, arith, inl, inr, ◌⊎◌, codes}
+use Rattle.std.specs.Prelude.{Result, IfOk}
 use Rattle.std.proofs.lemmas.Result.{IfOk-weaker}
 use Rattle.text_base.specs.declared.memory.NoMemory.{NoMemory}
 use Rattle.text_base.specs.declared.reasons.ScriptFault.{ScriptFault}
 use Rattle.text_base.specs.declared.reasons.SelectorFault.{SelectorFault}
 use Rattle.text_base.specs.declared.reasons.SelectorFault.TheVariants as fault
 use Rattle.text_base.specs.Reasons.{selector_word, script_word}
+use Rattle.test_registry.specs.Names.{Known}
 use Rattle.css_selectors.specs.declared.selector.Dialect.{Dialect}
 use Rattle.css_selectors.specs.declared.selector.Dialect.TheVariants.{Html}
 use Rattle.css_selectors.specs.declared.selector.SelectorList.{SelectorList}
 use Rattle.css_parser.specs.Selecting.{Accepts}
 use Rattle.css_printed.specs.Printed.{printed}
 use Rattle.query_script.specs.declared.script.Field.{Field}
-use Rattle.query_script.specs.Fields.{IsScript, IsScriptFault}
+use Rattle.query_script.specs.Fields.{IsScriptOver, IsScriptFault}
+use Rattle.query_script.specs.Queries.{IsCssFault}
 use Rattle.json_lines.specs.Lines.{css_text, reason_text}
 use Rattle.xpath_lexer.specs.Places.{most_xpath}
 use Rattle.extract_call.specs.declared.answers.Line.{Line}
 use Rattle.extract_call.specs.Answers.{Answer, answer_of}
 use Rattle.extract_call.specs.inner.Below.{Below}
 use Rattle.extract_call.specs.Bulk.{bulk_script, bulk_text}
-use Rattle.extract_call.specs.CssLines.{IsKept, IsCssLine, IsListLine, IsRefusalLine, IsRefusedFor}
-use Rattle.extract_call.specs.Laws.{OnePlan, HasQueries}
-use Rattle.extract_call.specs.PageLines.{IsPageLine, IsValuesLine, MakesLines}
-use Rattle.extract_call.specs.Plans.{Plan, alone, over, IsPlan, IsScriptRefused, IsBulkLine, ForPlan}
-use Rattle.extract_call.specs.Words.{Command, css, run, bulk}
-use Rattle.extract_call.proofs.PageReadings.{one_page_line}
+use Rattle.extract_call.specs.CssLines.{IsCssLine, IsListLine, IsRefusalLine}
+use Rattle.extract_call.specs.Laws.{OnePlan}
+use Rattle.extract_call.specs.PageLines.{IsPageLine, IsValuesLine, IsMarkupLine, MakesLines}
+use Rattle.extract_call.specs.Plans.{Plan, alone, over, IsPlan, IsScriptRefused, IsBulkLine}
+use Rattle.extract_call.specs.Words.{css, run, bulk, clean}
+use Rattle.extract_call.proofs.PageReadings.{one_page_line, same_values_lines, same_markup_lines}
 use Rattle.extract_call.proofs.Readings.{one_or_other, one_reason, some_reading, within_or_past}
 
 -- the line that was made of the bulk page
-pub bulk_line : (n : ℕ) (fields : List Field) (bytes : List ℕ) (made : Result Line NoMemory) → IsScript Html bulk_script fields → bytes ≡ bulk_text n
-    → IfOk made (λ l. IsPageLine (IsValuesLine fields) (codes "bulk") bytes (answer_of l)) → IfOk made (λ l. IsBulkLine n (answer_of l))
-bulk_line n fields bytes made reads same h =
-    IfOk-weaker made _ _ (λ l is. inr (record { fields = fields; reads = reads; line = subst (λ x. IsPageLine (IsValuesLine fields) (codes "bulk") x (answer_of l)) same is })) h
+pub bulk_line : (tests : Known) (n : ℕ) (fields : List Field) (bytes : List ℕ) (made : Result Line NoMemory) → IsScriptOver tests Html bulk_script fields → bytes ≡ bulk_text n
+    → IfOk made (λ l. IsPageLine (IsValuesLine tests fields) (codes "bulk") bytes (answer_of l)) → IfOk made (λ l. IsBulkLine tests n (answer_of l))
+bulk_line tests n fields bytes made reads same h =
+    IfOk-weaker made _ _ (λ l is. inr (record { fields = fields; reads = reads; line = subst (λ x. IsPageLine (IsValuesLine tests fields) (codes "bulk") x (answer_of l)) same is })) h
 
--- what follows for each plan
-pub for_plan : (said : Option Command) (P Q : Plan → Type 0) → ((plan : Plan) → P plan → Q plan) → ForPlan said P → ForPlan said Q
-for_plan None P Q f h = tt
-for_plan (Some command) P Q f h = λ plan is. f plan (h plan is)
-
--- the XPath of a line that holds no refusal keeps its meaning
-pub done_keeps : (d : Dialect) (text : List ℕ) (made : Result Line NoMemory)
-    → IfOk made (λ l. l.refused ≡ false → (list : SelectorList) → Accepts text list → IsKept d list)
-    → IsOkAnd made (λ l. l.refused ≡ false) → (list : SelectorList) → Accepts text list → IsKept d list
-done_keeps d text (Ok l) keeps done list h = keeps done list h
-done_keeps d text (Err e) keeps done list h = absurd done
+-- what holds of all that makes the canonical markup of pages holds of the plan
+pub of_clean : (tests : Known) (page : List ℕ) (P : Plan → Type 0) → ((line : List ℕ → List ℕ → Answer) → MakesLines IsMarkupLine line → P (over line (page ∷ [])))
+    → (plan : Plan) → IsPlan tests (clean page) plan → P plan
+of_clean tests page P each (alone a) h = absurd h
+of_clean tests page P each (over line pages) h = subst (λ x. P (over line x)) (sym h.0) (each line h.1)
 
 -- ---- what follows from what the crates below promise
 
@@ -55,7 +48,7 @@ module _ (below : Below) where
   list_and_refusal : (d : Dialect) (text : List ℕ) (a b : Answer) → IsListLine d text a → IsRefusalLine d text b → ⊥
   list_and_refusal d text a b h g = too_long g.why (one_or_other below d text h.list h.accepted g.why g.cause) g.cause
     where
-      too_long : (why : SelectorFault) → why ≡ fault.XPathLong → IsRefusedFor d text why → ⊥
+      too_long : (why : SelectorFault) → why ≡ fault.XPathLong → IsCssFault d text why → ⊥
       too_long fault.XPathLong e r =
           let same : length (printed d r.list) ≡ length (printed d h.list) = ap (λ l. length (printed d l)) (below.one_list text r.list h.list r.accepted h.accepted) in
           let long : most_xpath < length (printed d r.list) = r.long in
@@ -92,61 +85,57 @@ module _ (below : Below) where
       h.line ∙ ap (λ why. record { text = reason_text (codes "script." ++ script_word why); refused = true }) (below.one_script_fault s h.why k.why h.cause k.cause) ∙ sym k.line
 
   -- what is made by the fields of a script is made by whichever fields it reads as
-  makes_for : (d : Dialect) (s : List ℕ) (fields other : List Field) → IsScript d s fields → IsScript d s other → (line : List ℕ → List ℕ → Answer) → MakesLines (IsValuesLine other) line → MakesLines (IsValuesLine fields) line
-  makes_for d s fields other h k line makes = subst (λ x. MakesLines (IsValuesLine x) line) (below.one_script d s other fields k h) makes
+  makes_for : (tests : Known) (d : Dialect) (s : List ℕ) (fields other : List Field) → IsScriptOver tests d s fields → IsScriptOver tests d s other → (line : List ℕ → List ℕ → Answer)
+      → MakesLines (IsValuesLine tests other) line → MakesLines (IsValuesLine tests fields) line
+  makes_for tests d s fields other h k line makes = subst (λ x. MakesLines (IsValuesLine tests x) line) (below.one_script tests d s other fields k h) makes
 
-  one_bulk_line : (n : ℕ) (a b : Answer) → IsBulkLine n a → IsBulkLine n b → a ≡ b
-  one_bulk_line n a b (inl h) (inl k) = same_refusal bulk_script a b h k
-  one_bulk_line n a b (inl h) (inr k) = absurd (below.read_or_refused Html bulk_script k.fields h.why k.reads h.cause)
-  one_bulk_line n a b (inr h) (inl k) = absurd (below.read_or_refused Html bulk_script h.fields k.why h.reads k.cause)
-  one_bulk_line n a b (inr h) (inr k) =
-      let same = below.one_script Html bulk_script k.fields h.fields k.reads h.reads in
-      one_page_line below h.fields (codes "bulk") (bulk_text n) a b h.line (subst (λ x. IsPageLine (IsValuesLine x) (codes "bulk") (bulk_text n) b) same k.line)
+  one_bulk_line : (tests : Known) (n : ℕ) (a b : Answer) → IsBulkLine tests n a → IsBulkLine tests n b → a ≡ b
+  one_bulk_line tests n a b (inl h) (inl k) = same_refusal bulk_script a b h k
+  one_bulk_line tests n a b (inl h) (inr k) = absurd (below.read_or_refused tests Html bulk_script k.fields h.why k.reads h.cause)
+  one_bulk_line tests n a b (inr h) (inl k) = absurd (below.read_or_refused tests Html bulk_script h.fields k.why h.reads k.cause)
+  one_bulk_line tests n a b (inr h) (inr k) =
+      let same = below.one_script tests Html bulk_script k.fields h.fields k.reads h.reads in
+      one_page_line below tests h.fields (codes "bulk") (bulk_text n) a b h.line (subst (λ x. IsPageLine (IsValuesLine tests x) (codes "bulk") (bulk_text n) b) same k.line)
 
   pub one_plan : OnePlan
-  one_plan (css d s) (alone a) (alone b) h k = ap alone (one_line d s a b h k)
-  one_plan (css d s) (alone a) (over m q) h k = absurd k
-  one_plan (css d s) (over l p) other h k = absurd h
-  one_plan (run d s names) (alone a) (alone b) h k = ap alone (same_refusal s a b h k)
-  one_plan (run d s names) (alone a) (over m q) h k = absurd (below.read_or_refused d s k.1.fields h.why k.1.reads h.cause)
-  one_plan (run d s names) (over l p) (alone b) h k = absurd (below.read_or_refused d s h.1.fields k.why h.1.reads k.cause)
-  one_plan (run d s names) (over l p) (over m q) h k =
-      let makes : MakesLines (IsValuesLine h.1.fields) m = makes_for d s h.1.fields k.1.fields h.1.reads k.1.reads m k.1.makes in
-      let same : l ≡ m = fun_ext (λ name. fun_ext (λ bytes. one_page_line below h.1.fields name bytes (l name bytes) (m name bytes) (h.1.makes name bytes) (makes name bytes))) in
-      ap₂ over same (h.0 ∙ sym k.0)
-  one_plan (bulk n) (alone a) (alone b) h k = ap alone (one_bulk_line n a b h k)
-  one_plan (bulk n) (alone a) (over m q) h k = absurd k
-  one_plan (bulk n) (over l p) other h k = absurd h
+  one_plan tests (css d s) (alone a) (alone b) h k = ap alone (one_line d s a b h k)
+  one_plan tests (css d s) (alone a) (over m q) h k = absurd k
+  one_plan tests (css d s) (over l p) other h k = absurd h
+  one_plan tests (run d s names) (alone a) (alone b) h k = ap alone (same_refusal s a b h k)
+  one_plan tests (run d s names) (alone a) (over m q) h k = absurd (below.read_or_refused tests d s k.1.fields h.why k.1.reads h.cause)
+  one_plan tests (run d s names) (over l p) (alone b) h k = absurd (below.read_or_refused tests d s h.1.fields k.why h.1.reads k.cause)
+  one_plan tests (run d s names) (over l p) (over m q) h k =
+      let makes : MakesLines (IsValuesLine tests h.1.fields) m = makes_for tests d s h.1.fields k.1.fields h.1.reads k.1.reads m k.1.makes in
+      ap₂ over (same_values_lines below tests h.1.fields l m h.1.makes makes) (h.0 ∙ sym k.0)
+  one_plan tests (bulk n) (alone a) (alone b) h k = ap alone (one_bulk_line tests n a b h k)
+  one_plan tests (bulk n) (alone a) (over m q) h k = absurd k
+  one_plan tests (bulk n) (over l p) other h k = absurd h
+  one_plan tests (clean page) (alone a) other h k = absurd h
+  one_plan tests (clean page) (over l p) (alone b) h k = absurd k
+  one_plan tests (clean page) (over l p) (over m q) h k = ap₂ over (same_markup_lines below l m h.1 k.1) (h.0 ∙ sym k.0)
 
   -- ---- what holds of the line that was made holds of the plan
 
-  pub of_css : (d : Dialect) (text : List ℕ) (made : Result Line NoMemory) (P : Plan → Type 0) → IfOk made (λ l. IsCssLine d text (answer_of l))
-      → ((a : Answer) → IfOk made (λ l. answer_of l ≡ a) → P (alone a)) → (plan : Plan) → IsPlan (css d text) plan → P plan
-  of_css d text made P line each (alone a) h = each a (IfOk-weaker made _ _ (λ l is_line. one_line d text (answer_of l) a is_line h) line)
-  of_css d text made P line each (over page names) h = absurd h
+  module _ (tests : Known) where
+    pub of_css : (d : Dialect) (text : List ℕ) (made : Result Line NoMemory) (P : Plan → Type 0) → IfOk made (λ l. IsCssLine d text (answer_of l))
+        → ((a : Answer) → IfOk made (λ l. answer_of l ≡ a) → P (alone a)) → (plan : Plan) → IsPlan tests (css d text) plan → P plan
+    of_css d text made P line each (alone a) h = each a (IfOk-weaker made _ _ (λ l is_line. one_line d text (answer_of l) a is_line h) line)
+    of_css d text made P line each (over page names) h = absurd h
 
-  pub of_bulk : (n : ℕ) (made : Result Line NoMemory) (P : Plan → Type 0) → IfOk made (λ l. IsBulkLine n (answer_of l))
-      → ((a : Answer) → IfOk made (λ l. answer_of l ≡ a) → P (alone a)) → (plan : Plan) → IsPlan (bulk n) plan → P plan
-  of_bulk n made P line each (alone a) h = each a (IfOk-weaker made _ _ (λ l is_line. one_bulk_line n (answer_of l) a is_line h) line)
-  of_bulk n made P line each (over page names) h = absurd h
+    pub of_bulk : (n : ℕ) (made : Result Line NoMemory) (P : Plan → Type 0) → IfOk made (λ l. IsBulkLine tests n (answer_of l))
+        → ((a : Answer) → IfOk made (λ l. answer_of l ≡ a) → P (alone a)) → (plan : Plan) → IsPlan tests (bulk n) plan → P plan
+    of_bulk n made P line each (alone a) h = each a (IfOk-weaker made _ _ (λ l is_line. one_bulk_line tests n (answer_of l) a is_line h) line)
+    of_bulk n made P line each (over page names) h = absurd h
 
-  -- a script that reads as fields
-  pub of_script : (d : Dialect) (s : List ℕ) (names : List (List ℕ)) (fields : List Field) (P : Plan → Type 0) → IsScript d s fields
-      → ((line : List ℕ → List ℕ → Answer) → MakesLines (IsValuesLine fields) line → P (over line names)) → (plan : Plan) → IsPlan (run d s names) plan → P plan
-  of_script d s names fields P reads each (alone a) h = absurd (below.read_or_refused d s fields h.why reads h.cause)
-  of_script d s names fields P reads each (over line pages) h =
-      subst (λ x. P (over line x)) (sym h.0) (each line (makes_for d s fields h.1.fields reads h.1.reads line h.1.makes))
+    -- a script that reads as fields
+    pub of_script : (d : Dialect) (s : List ℕ) (names : List (List ℕ)) (fields : List Field) (P : Plan → Type 0) → IsScriptOver tests d s fields
+        → ((line : List ℕ → List ℕ → Answer) → MakesLines (IsValuesLine tests fields) line → P (over line names)) → (plan : Plan) → IsPlan tests (run d s names) plan → P plan
+    of_script d s names fields P reads each (alone a) h = absurd (below.read_or_refused tests d s fields h.why reads h.cause)
+    of_script d s names fields P reads each (over line pages) h =
+        subst (λ x. P (over line x)) (sym h.0) (each line (makes_for tests d s fields h.1.fields reads h.1.reads line h.1.makes))
 
-  -- a script that is refused as a whole
-  pub of_refusal : (d : Dialect) (s : List ℕ) (names : List (List ℕ)) (why : ScriptFault) (made : Result Line NoMemory) (P : Plan → Type 0) → IsScriptFault s why
-      → IfOk made (λ l. IsScriptRefused s (answer_of l)) → ((a : Answer) → IfOk made (λ l. answer_of l ≡ a) → P (alone a)) → (plan : Plan) → IsPlan (run d s names) plan → P plan
-  of_refusal d s names why made P cause line each (alone a) h = each a (IfOk-weaker made _ _ (λ l is_line. same_refusal s (answer_of l) a is_line h) line)
-  of_refusal d s names why made P cause line each (over page pages) h = absurd (below.read_or_refused d s h.1.fields why h.1.reads cause)
-
-  -- the queries of a script that was read, whichever fields it reads as
-  pub ordered_for : (d : Dialect) (text : List ℕ) (fields : List Field) → IsScript d text fields → AllByRecursion IsOrdered fields → HasQueries d text
-  ordered_for d text fields reads ordered other also = subst (λ (x : List Field). AllByRecursion IsOrdered x) (below.one_script d text fields other reads also) ordered
-
-  -- a script that is refused as a whole has no queries
-  pub none_refused : (d : Dialect) (text : List ℕ) (why : ScriptFault) → IsScriptFault text why → HasQueries d text
-  none_refused d text why cause fields reads = absurd (below.read_or_refused d text fields why reads cause)
+    -- a script that is refused as a whole
+    pub of_refusal : (d : Dialect) (s : List ℕ) (names : List (List ℕ)) (why : ScriptFault) (made : Result Line NoMemory) (P : Plan → Type 0) → IsScriptFault s why
+        → IfOk made (λ l. IsScriptRefused s (answer_of l)) → ((a : Answer) → IfOk made (λ l. answer_of l ≡ a) → P (alone a)) → (plan : Plan) → IsPlan tests (run d s names) plan → P plan
+    of_refusal d s names why made P cause line each (alone a) h = each a (IfOk-weaker made _ _ (λ l is_line. same_refusal s (answer_of l) a is_line h) line)
+    of_refusal d s names why made P cause line each (over page pages) h = absurd (below.read_or_refused tests d s h.1.fields why h.1.reads cause)

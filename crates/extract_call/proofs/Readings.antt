@@ -8,9 +8,8 @@ use Rattle.css_selectors.specs.declared.selector.Dialect.{Dialect}
 use Rattle.css_selectors.specs.declared.selector.SelectorList.{SelectorList}
 use Rattle.css_parser.specs.Selecting.{Accepts, IsFault}
 use Rattle.css_printed.specs.Printed.{printed}
-use Rattle.css_printed.specs.Promise.{KeepsMeaning}
 use Rattle.extract_call.specs.inner.Below.{Below}
-use Rattle.extract_call.specs.CssLines.{IsKept, IsRefusedFor, IsXPathLong}
+use Rattle.query_script.specs.Queries.{IsCssFault, IsXPathLong}
 use Rattle.extract_call.specs.Laws.{OneReading}
 use Rattle.json_lines.specs.Lines.{IsSmall}
 use Rattle.std.specs.List.{AllByRecursion}
@@ -18,11 +17,11 @@ use Rattle.std.proofs.lemmas.List.Elements.{All-weaker, recursion_from_All}
 use Rattle.css_selectors.specs.WellMade.{WellMade, IsSelector}
 
 -- the text is no list, or its XPath is too long
-split : (d : Dialect) (text : List ℕ) (why : SelectorFault) → IsRefusedFor d text why → ((why ≡ fault.XPathLong) × IsXPathLong d text) ⊎ IsFault text why
+split : (d : Dialect) (text : List ℕ) (why : SelectorFault) → IsCssFault d text why → ((why ≡ fault.XPathLong) × IsXPathLong d text) ⊎ IsFault text why
 split d text fault.XPathLong h = inl (refl, h)
 split d text _ h = inr h
 
-refused_for : (d : Dialect) (text : List ℕ) (why : SelectorFault) → IsFault text why → IsRefusedFor d text why
+refused_for : (d : Dialect) (text : List ℕ) (why : SelectorFault) → IsFault text why → IsCssFault d text why
 refused_for d text fault.XPathLong h = absurd h
 refused_for d text _ h = h
 
@@ -46,20 +45,13 @@ all_small list h = recursion_from_All IsSmall list.items (All-weaker IsSelector 
 -- ---- what follows from what the crates below promise
 
 module _ (below : Below) where
-  -- a printed text that keeps its list's meaning, for whichever list is accepted
-  pub keeps_for : (d : Dialect) (text xpath : List ℕ) (list : SelectorList) → Accepts text list → xpath ≡ printed d list → KeepsMeaning d list xpath
-      → (other : SelectorList) → Accepts text other → IsKept d other
-  keeps_for d text xpath list h e keeps other g =
-      let K : List ℕ → Type 0 = λ t. KeepsMeaning d list t in
-      subst (IsKept d) (below.one_list text list other h g) (subst K e keeps)
-
-  pub one_or_other : (d : Dialect) (text : List ℕ) (list : SelectorList) → Accepts text list → (why : SelectorFault) → IsRefusedFor d text why → why ≡ fault.XPathLong
+  pub one_or_other : (d : Dialect) (text : List ℕ) (list : SelectorList) → Accepts text list → (why : SelectorFault) → IsCssFault d text why → why ≡ fault.XPathLong
   one_or_other d text list h why r = elim (split d text why r) [
     | inl long ↦ long.0
     | inr cause ↦ absurd (below.list_or_fault text list why h cause)
   ]
 
-  pub one_reason : (d : Dialect) (text : List ℕ) (a b : SelectorFault) → IsRefusedFor d text a → IsRefusedFor d text b → a ≡ b
+  pub one_reason : (d : Dialect) (text : List ℕ) (a b : SelectorFault) → IsCssFault d text a → IsCssFault d text b → a ≡ b
   one_reason d text a b h g = elim (split d text a h) [
     | inl long ↦ long.0 ∙ sym (one_or_other d text long.1.list long.1.accepted b g)
     | inr cause ↦ by_other cause (split d text b g)
@@ -69,7 +61,7 @@ module _ (below : Below) where
       by_other cause (inl long) = one_or_other d text long.1.list long.1.accepted a h ∙ sym long.0
       by_other cause (inr other) = below.one_list_fault text a b cause other
 
-  pub some_reading : (d : Dialect) (text : List ℕ) → ((a : SelectorList) × Accepts text a) ⊎ ((why : SelectorFault) × IsRefusedFor d text why)
+  pub some_reading : (d : Dialect) (text : List ℕ) → ((a : SelectorList) × Accepts text a) ⊎ ((why : SelectorFault) × IsCssFault d text why)
   some_reading d text = elim (below.some_list text) [
     | inl list ↦ inl list
     | inr why ↦ inr (why.0, refused_for d text why.0 why.1)

@@ -1,54 +1,50 @@
 -- Fields that are ready, and their values.
-use Rattle.std.proofs.Common.{◌≡◌, ℕ, zero, suc, ◌+◌, ◌<◌, List, [], ◌∷◌, ◌++◌, length, take, get_or, refl, subst, arith, add-one, sym, ap}
+use Rattle.std.proofs.Common.{◌≡◌, ℕ, zero, suc, ◌+◌, ◌<◌, List, [], ◌∷◌, ◌++◌, length, take, get_or, map, refl, subst, arith, add-one, sym, ◌∙◌, ap, ap₂}
+use Rattle.std.specs.Prelude.{All}
+use Rattle.std.proofs.lemmas.List.{take_more, map-append}
+use Rattle.std.proofs.lemmas.List.Elements.{All-push}
 use Rattle.doc_model.specs.Document.{Document}
+use Rattle.test_registry.specs.Names.{Known}
 use Rattle.query_script.specs.declared.script.Field.{Field}
-use Rattle.query_script.specs.declared.script.FieldValue.{FieldValue}
-use Rattle.query_chain.specs.Chains.{IsValue}
-use Rattle.query_chain.specs.Tasks.{Task, IsTask}
+use Rattle.query_chain.specs.Chains.{outcome}
+use Rattle.query_chain.specs.Tasks.{Task, IsTaskOver, TaskAsks}
 use Rattle.extract_call.specs.PageLines.{AreValues}
-use Rattle.extract_call.specs.Tasks.{AreTasks}
+use Rattle.extract_call.specs.inner.Tasks.{AreTasks}
 
-next_task : (fields : List Field) (tasks : List Task) (i : ℕ) (f : Field) (t : Task) → AreTasks (take i fields) tasks → i < length fields → f ≡ get_or fields i f → IsTask f t
-    → AreTasks (take (suc i) fields) (tasks ++ t ∷ [])
-next_task [] tasks i f t h w e is = absurd (omega arith)
-next_task (g ∷ fields) [] zero f t h w e is = (subst (λ x. IsTask x t) e is, tt)
-next_task (g ∷ fields) (u ∷ tasks) zero f t h w e is = absurd h
-next_task (g ∷ fields) [] (suc i) f t h w e is = absurd h
-next_task (g ∷ fields) (u ∷ tasks) (suc i) f t h w e is = (h.0, next_task fields tasks i f t h.1 (omega arith) e is)
+module _ (tests : Known) where
+  next_task : (fields : List Field) (tasks : List Task) (i : ℕ) (f : Field) (t : Task) → AreTasks tests (take i fields) tasks → i < length fields → f ≡ get_or fields i f → IsTaskOver tests f t
+      → AreTasks tests (take (suc i) fields) (tasks ++ t ∷ [])
+  next_task [] tasks i f t h w e is = absurd (omega arith)
+  next_task (g ∷ fields) [] zero f t h w e is = (subst (λ x. IsTaskOver tests x t) e is, tt)
+  next_task (g ∷ fields) (u ∷ tasks) zero f t h w e is = absurd h
+  next_task (g ∷ fields) [] (suc i) f t h w e is = absurd h
+  next_task (g ∷ fields) (u ∷ tasks) (suc i) f t h w e is = (h.0, next_task fields tasks i f t h.1 (omega arith) e is)
 
--- one field more
-pub task_more : (fields : List Field) (tasks : List Task) (i : ℕ) (f : Field) (t : Task) → AreTasks (take i fields) tasks → i < length fields → f ≡ get_or fields i f → IsTask f t
-    → AreTasks (take (i + 1) fields) (tasks ++ t ∷ [])
-task_more fields tasks i f t h w e is = rw add-one (next_task fields tasks i f t h w e is)
+  -- one field more
+  pub task_more : (fields : List Field) (old new : List Task) (i : ℕ) (f : Field) (t : Task) → AreTasks tests (take i fields) old → i < length fields → f ≡ get_or fields i f → IsTaskOver tests f t
+      → new ≡ old ++ t ∷ [] → AreTasks tests (take (i + 1) fields) new
+  task_more fields old new i f t h w e is more = rw (more, add-one) (next_task fields old i f t h w e is)
 
--- a task at the end is that of the last field
-last_task : (fields : List Field) (tasks : List Task) (i : ℕ) (t : Task) → AreTasks fields (take (suc i) tasks) → i < length tasks → t ≡ get_or tasks i t
-    → (front : List Field) × ((f : Field) × ((fields ≡ front ++ f ∷ []) × (AreTasks front (take i tasks) × IsTask f t)))
-last_task fields [] i t h w e = absurd (omega arith)
-last_task [] (u ∷ tasks) i t h w e = absurd h
-last_task (f ∷ []) (u ∷ tasks) zero t h w e = ([], (f, (refl, (tt, subst (λ (x : Task). IsTask f x) (sym e) h.0))))
-last_task (f ∷ g ∷ fields) (u ∷ tasks) zero t h w e = absurd h.1
-last_task (f ∷ fields) (u ∷ tasks) (suc i) t h w e =
-    let rest = last_task fields tasks i t h.1 (omega arith) e in
-    (f ∷ rest.0, (rest.1.0, (ap (λ x. f ∷ x) rest.1.1.0, ((h.0, rest.1.1.1.0), rest.1.1.1.1))))
+  pub asks_more : (old new : List Task) (t : Task) → new ≡ old ++ t ∷ [] → All (TaskAsks tests) old → TaskAsks tests t → All (TaskAsks tests) new
+  asks_more old new t more h is = subst (λ (x : List Task). All (TaskAsks tests) x) (sym more) (All-push (TaskAsks tests) old t h is)
 
-value_behind : (doc : Document) (front : List Field) (f : Field) (values : List FieldValue) (v : FieldValue) → AreValues doc front values → IsValue doc f v
-    → AreValues doc (front ++ f ∷ []) (values ++ v ∷ [])
-value_behind doc [] f [] v h is = (is, tt)
-value_behind doc [] f (w ∷ values) v h is = absurd h
-value_behind doc (g ∷ front) f [] v h is = absurd h
-value_behind doc (g ∷ front) f (w ∷ values) v h is = (h.0, value_behind doc front f values v h.1 is)
+  -- what the tasks of fields have as their values is the fields' values
+  pub values_by_tasks : (doc : Document) (fields : List Field) (tasks : List Task) → AreTasks tests fields tasks → AreValues tests doc fields (map (outcome doc 0) tasks)
+  values_by_tasks doc [] [] h = tt
+  values_by_tasks doc [] (t ∷ tasks) h = absurd h
+  values_by_tasks doc (f ∷ fields) [] h = absurd h
+  values_by_tasks doc (f ∷ fields) (t ∷ tasks) h = ((t, h.0, refl), values_by_tasks doc fields tasks h.1)
 
--- one value more
-pub value_more : (doc : Document) (tasks : List Task) (values : List FieldValue) (i : ℕ) (t : Task) (v : FieldValue) → ((fields : List Field) → AreTasks fields (take i tasks) → AreValues doc fields values)
-    → i < length tasks → t ≡ get_or tasks i t → ((field : Field) → IsTask field t → IsValue doc field v)
-    → (fields : List Field) → AreTasks fields (take (i + 1) tasks) → AreValues doc fields (values ++ v ∷ [])
-value_more doc tasks values i t v before w e of_field fields h =
-    let last = last_task fields tasks i t (rw add-one at h) w e in
-    subst (λ (x : List Field). AreValues doc x (values ++ v ∷ [])) (sym last.1.1.0)
-    (value_behind doc last.0 last.1.0 values v (before last.0 last.1.1.1.0) (of_field last.1.0 last.1.1.1.1))
+  -- as many of them as fields
+  pub as_many : (doc : Document) (fields : List Field) (tasks : List Task) → AreTasks tests fields tasks → length fields ≡ length (map (outcome doc 0) tasks)
+  as_many doc [] [] h = refl
+  as_many doc [] (t ∷ tasks) h = absurd h
+  as_many doc (f ∷ fields) [] h = absurd h
+  as_many doc (f ∷ fields) (t ∷ tasks) h = let rest = as_many doc fields tasks h.1 in omega arith
 
--- no value yet
-pub no_values : (doc : Document) (fields : List Field) → AreTasks fields [] → AreValues doc fields []
-no_values doc [] h = tt
-no_values doc (f ∷ fields) h = absurd h
+-- one value more of a list of values
+pub mapped_more : {X Y : Type 0} (f : X → Y) (xs : List X) (old new : List Y) (i : ℕ) (x : X) (y : Y) → old ≡ map f (take i xs) → i < length xs → x ≡ get_or xs i x → y ≡ f x → new ≡ old ++ y ∷ []
+    → new ≡ map f (take (i + 1) xs)
+mapped_more f xs old new i x y h w at is more =
+    let front : take (i + 1) xs ≡ take i xs ++ x ∷ [] = take_more xs i x w ∙ ap (λ t. take i xs ++ t ∷ []) (sym at) in
+    more ∙ ap₂ (λ a b. a ++ b ∷ []) h is ∙ sym (ap (map f) front ∙ map-append f (take i xs) (x ∷ []))

@@ -7,7 +7,7 @@ use Rattle.io_edges.specs.Laws.{TakingLaw}
 use Rattle.io_edges.specs.Pages.{page}
 use Rattle.io_edges.specs.Sink.{grown, TakesPart}
 use Rattle.extract_call.specs.Answers.{Answer, bytes_of, line_bytes}
-use Rattle.extract_call.specs.OnePage.{TakesLinePart}
+use Rattle.extract_call.specs.inner.OnePage.{TakesLinePart}
 use Rattle.extract_call.specs.Output.{page_answers, HasAll, InTurn}
 use Rattle.extract_call.specs.Plans.{Plan, alone, over}
 use Rattle.extract_call.proofs.OutputLemmas.{part_of_nothing}

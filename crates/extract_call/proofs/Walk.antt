@@ -11,7 +11,7 @@ use Rattle.extract_call.specs.Answers.{Answer, bytes_of, refuses, line_bytes}
 use Rattle.extract_call.specs.Output.{page_answers, HasAll, Written}
 use Rattle.extract_call.specs.Plans.{over}
 use Rattle.extract_call.proofs.Ended.{Ended}
-use Rattle.extract_call.specs.OnePage.{TakesLine, TakesLinePart}
+use Rattle.extract_call.specs.inner.OnePage.{TakesLine, TakesLinePart}
 use Rattle.extract_call.specs.declared.status.Status.{Status}
 use Rattle.extract_call.specs.declared.status.Status.TheVariants.{Done, Refused, Usage, ReadFault, WriteFault}
 use Rattle.extract_call.proofs.OutputLemmas.{part_of_front, part_behind, part_whole, bytes_of-append, refuses-append, answers_cut, answers_next, answers_more, there_next}
@@ -22,10 +22,6 @@ pub record SoFar (line : List ℕ → List ℕ → Answer) (told : List (List �
   pub there : HasAll told (take i names)
   pub are : taken ≡ grown old (bytes_of (page_answers line told (take i names)))
   pub truth : refuses (page_answers line told (take i names)) ≡ refused
-
-pub none_yet : (law : TakingLaw) (line : List ℕ → List ℕ → Answer) (told : Option (List (List ℕ × List ℕ))) (names : List (List ℕ)) (old : Option (List ℕ)) → IfSome told (λ t. SoFar line t names 0 old old false)
-none_yet law line None names old = tt
-none_yet law line (Some t) names old = record { there = tt; are = law.nothing old; truth = refl }
 
 or_false : (r : Bool) → (r || false) ≡ r
 or_false true = refl

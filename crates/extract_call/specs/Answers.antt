@@ -2,7 +2,7 @@
 use Rattle.std.specs.Prelude.{ℕ, Bool, ◌||◌, false, List, [], ◌∷◌, ◌++◌, string_bytes}
 use Rattle.extract_call.specs.declared.answers.Line.{Line}
 
--- a line without its LF, and whether it holds a refusal
+-- A line without its LF, and whether it holds a refusal. The markup of a page is one such, though it may have line feeds of its own.
 pub record Answer : Type 0 where
   pub text : List ℕ
   pub refused : Bool

@@ -3,11 +3,10 @@ pub mod Bulk
 pub mod CssLines
 pub mod Laws
 pub mod Numbers
-pub mod OnePage
 pub mod Output
 pub mod PageLines
 pub mod Plans
 pub mod Runs
-pub mod Tasks
+pub mod Selectors
 pub mod Words
 pub mod inner

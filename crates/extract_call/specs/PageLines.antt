@@ -1,5 +1,5 @@
 -- The line of a page, which is made of what is asked of its document, of its name and its bytes, and of nothing else.
-use Rattle.std.specs.Prelude.{◌≡◌, ◌≤◌, ◌<◌, ℕ, ◌⊎◌, Bool, true, false, List, [], ◌∷◌, length, Ok, Err}
+use Rattle.std.specs.Prelude.{◌≡◌, ◌≤◌, ◌<◌, ℕ, ◌⊎◌, Bool, true, false, List, [], ◌∷◌, length, Ok, Err, encode_utf8_all}
 use Rattle.std.specs.List.{list_any}
 use Rattle.text_base.specs.declared.reasons.PageFault.{PageFault}
 use Rattle.text_base.specs.declared.reasons.PageReason.TheVariants.{TooLong}
@@ -9,7 +9,9 @@ use Rattle.html_reader.specs.Pages.{BuildsPage, IsPageFault}
 use Rattle.query_script.specs.declared.script.Field.{Field}
 use Rattle.query_script.specs.declared.script.FieldValue.{FieldValue}
 use Rattle.query_script.specs.declared.script.FieldValue.TheVariants.{All, One, Refused}
-use Rattle.query_chain.specs.Chains.{IsValue}
+use Rattle.test_registry.specs.Names.{Known}
+use Rattle.query_chain.specs.Chains.{IsValueOver}
+use Rattle.markup_out.specs.Markup.{canonical}
 use Rattle.json_lines.specs.Pages.{page_text, refused_text}
 use Rattle.extract_call.specs.Answers.{Answer}
 pub use Rattle.io_edges.specs.Pages.{most_page}
@@ -64,14 +66,14 @@ IsPageLine shows name bytes a = IsRefusedPageLine name bytes a ⊎ IsShownLine s
 abbrev pub MakesLines : (List ℕ → Document → Answer → Type 0) → (List ℕ → List ℕ → Answer) → Type 0
 MakesLines shows line = (name bytes : List ℕ) → IsPageLine shows name bytes (line name bytes)
 
--- ---- what a document shows by the fields of a script
+-- ---- what a document shows by the fields of a script, where some tests are stored
 
 -- each field has the value at its place
-abbrev pub AreValues : Document → List Field → List FieldValue → Type 0
-AreValues doc [] [] = Unit {0}
-AreValues doc [] (v ∷ values) = ⊥
-AreValues doc (f ∷ fields) [] = ⊥
-AreValues doc (f ∷ fields) (v ∷ values) = IsValue doc f v × AreValues doc fields values
+abbrev pub AreValues : Known → Document → List Field → List FieldValue → Type 0
+AreValues tests doc [] [] = Unit {0}
+AreValues tests doc [] (v ∷ values) = ⊥
+AreValues tests doc (f ∷ fields) [] = ⊥
+AreValues tests doc (f ∷ fields) (v ∷ values) = IsValueOver tests doc f v × AreValues tests doc fields values
 
 -- the value is a refusal
 abbrev pub is_refused : FieldValue → Bool
@@ -80,7 +82,13 @@ is_refused (One text) = false
 is_refused (Refused why) = true
 
 -- the line has the fields with their values on the document, and it holds a refusal where one of the fields is refused
-pub record IsValuesLine (fields : List Field) (name : List ℕ) (doc : Document) (a : Answer) : Type 0 where
+pub record IsValuesLine (tests : Known) (fields : List Field) (name : List ℕ) (doc : Document) (a : Answer) : Type 0 where
   pub values : List FieldValue
-  pub are : AreValues doc fields values
+  pub are : AreValues tests doc fields values
   pub line : a ≡ record { text = page_text name fields values; refused = list_any is_refused values }
+
+-- ---- what a document shows as it is to be kept
+
+-- its canonical markup, whatever the page's name is
+abbrev pub IsMarkupLine : List ℕ → Document → Answer → Type 0
+IsMarkupLine name doc a = a ≡ record { text = encode_utf8_all (canonical doc); refused = false }

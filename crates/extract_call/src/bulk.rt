@@ -1,16 +1,18 @@
 //! The bulk page, and the line of it.
-ghost use Rattle.std.specs.Prelude.{◌≡◌, ◌≤◌, ◌+◌, ◌++◌, ◌<◌, IfOk, IsOk, OnOk, string_bytes, decimal};
+ghost use Rattle.std.specs.Prelude.{◌≡◌, ◌≤◌, ◌+◌, ◌++◌, ◌<◌, IfOk, OnOk, string_bytes, decimal};
+ghost use Rattle.test_registry.specs.View.{known};
 ghost use Rattle.extract_call.specs.Answers.{answer_of};
-ghost use Rattle.extract_call.specs.Bulk.{item_tag, link_of, bulk_item, bulk_text, bulk_script};
-ghost use Rattle.extract_call.specs.Laws.{HasQueries};
+ghost use Rattle.extract_call.specs.Bulk.{item_tag, link_of, bulk_item, bulk_text};
 ghost use Rattle.extract_call.specs.Plans.{IsBulkLine};
 
 use crate::answers::{Line, script_answer};
+use crate::asked::Asked;
 use crate::laws::laws_below;
 use crate::page_lines::{page_answer, prepare_fields};
 use css_selectors::Dialect;
-use query_script::parse_script;
+use query_script::parse_script_with;
 use std::alloc::Global;
+use test_registry::Tests;
 use text_base::{NoMemory, ScriptFault};
 
 /// What is asked of the bulk page: five fields.
@@ -95,24 +97,23 @@ pub fn bulk_page(alloc: Global, n: u32) -> Result<String, NoMemory>
     Ok(page)
 }
 
-/// The line that the bulk script has for the bulk page of `n` items.
-pub fn bulk_answer(alloc: Global, n: u32) -> Result<Line, NoMemory>
+/// The line that the bulk script has for the bulk page of `n` items, where these tests are stored.
+pub fn bulk_answer(alloc: Global, n: u32, tests: &Tests) -> Result<Line, NoMemory>
     requires some { 1 ≤ n }
     requires most { n ≤ 20000 }
-    ensures line { IfOk result (λ line. IsBulkLine n (answer_of line)) }
-    ensures queries { IsOk result → HasQueries Dialect.Html bulk_script }
+    ensures { IfOk result (λ line. IsBulkLine (known tests.now) n (answer_of line)) }
 {
     laws_below();
-    match parse_script(alloc, Dialect::Html, BULK_SCRIPT) {
+    match parse_script_with(alloc, Dialect::Html, BULK_SCRIPT, tests) {
         Ok(script) => {
-            let ready = prepare_fields(alloc, script.fields.as_slice())?;
+            let ready = prepare_fields(alloc, script.fields.as_slice(), tests)?;
             let page = bulk_page(alloc, n)?;
             page_answer(
                 alloc,
-                &script.fields,
-                ready.as_slice(),
+                Asked::Values(&script.fields, ready.as_slice()),
                 "bulk",
                 page.as_bytes(),
+                tests,
             )
         }
         Err(ScriptFault::Memory) => Err(NoMemory),

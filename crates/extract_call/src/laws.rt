@@ -3,17 +3,21 @@ ghost use Rattle.extract_call.specs.inner.Below.{Below};
 ghost use Rattle.extract_call.specs.Laws.{BulkLaw, OnePlan, ReadingLaw, SomePlan, WordsLaw};
 
 use css_parser::one_list_or_fault;
+use css_translate::accepted_lists_keep_meaning;
 use html_reader::one_page_reading;
 use io_edges::pieces_add_up;
 use query_chain::{a_value, one_value};
-use query_script::read_or_refused;
+use query_script::{queries_run, read_or_refused, selectors_are_texts};
 
 /// The laws of the crates below, from which those of this crate follow.
 pub fn laws_below()
     ensures { Below }
 {
     one_list_or_fault();
+    accepted_lists_keep_meaning();
     read_or_refused();
+    queries_run();
+    selectors_are_texts();
     one_page_reading();
     one_value();
     a_value();
@@ -28,8 +32,7 @@ pub fn one_reading()
     laws_below();
 }
 
-/// A command has exactly one plan, so that its output is one list of lines: one at most, and one at least where each query of
-/// its script can be run, as `queries` of `extract` says.
+/// A command whose words are UTF-8 has exactly one plan, whichever tests are stored, so that its output is one list of lines.
 pub fn the_plan()
     ensures one { OnePlan }
     ensures some { SomePlan }

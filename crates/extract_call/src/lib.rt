@@ -1,7 +1,9 @@
-//! The top call of the program `extract`: compiles CSS selectors to XPath, and runs scripts of queries on pages.
+//! The top call of the program `extract`: compiles CSS selectors to XPath, runs scripts of queries on pages, and writes pages as
+//! canonical markup.
 #![tactic(auto)]
 
 mod answers;
+mod asked;
 mod bulk;
 mod laws;
 mod page_lines;
@@ -13,4 +15,4 @@ mod writing;
 
 pub use laws::{bulk_script_reads, one_reading, the_plan, words_of_commands};
 pub use status::Status;
-pub use top::extract;
+pub use top::{extract, extract_with};

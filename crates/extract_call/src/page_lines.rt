@@ -1,25 +1,31 @@
 //! The line of a page, from its bytes.
-ghost use Rattle.std.specs.Prelude.{◌≡◌, ◌≢◌, ◌≤◌, List, length, IsOk, IfOk, true};
+ghost use Rattle.std.specs.Prelude.{◌≡◌, ◌≢◌, ◌≤◌, length, map, All, IsOk, IfOk, true};
 ghost use Rattle.std.specs.List.{AllByRecursion, list_any};
-ghost use Rattle.query_script.specs.declared.script.Field.{Field};
-ghost use Rattle.query_script.specs.Ordered.{IsOrdered};
+ghost use Rattle.test_registry.specs.View.{known};
+ghost use Rattle.query_script.specs.Ordered.{IsOrderedOver, KeepsStored};
+ghost use Rattle.query_chain.specs.Chains.{outcome};
+ghost use Rattle.query_chain.specs.Tasks.{TaskAsks};
 ghost use Rattle.json_lines.specs.Pages.{refused_text};
 ghost use Rattle.extract_call.specs.Answers.{answer_of};
-ghost use Rattle.extract_call.specs.OnePage.{IsTextLine};
-ghost use Rattle.extract_call.specs.PageLines.{most_page, too_long, is_refused, AreValues, IsPageLine, IsValuesLine};
-ghost use Rattle.extract_call.specs.Tasks.{AreTasks};
+ghost use Rattle.extract_call.specs.inner.OnePage.{IsTextLine};
+ghost use Rattle.extract_call.specs.PageLines.{most_page, too_long, is_refused, IsPageLine, IsValuesLine, IsMarkupLine};
+ghost use Rattle.extract_call.specs.inner.Asked.{shown_by, IsReady};
+ghost use Rattle.extract_call.specs.inner.Tasks.{AreTasks};
 
 use crate::answers::Line;
+use crate::asked::Asked;
 use arena_tree::ArenaGrow;
 use bumpalo::Bump;
-use doc_model::Axes;
+use doc_model::{Axes, Tree};
 use html_reader::read_html;
 use io_edges::PAGE_LIMIT;
 use json_lines::{page_line, refused_line};
-use query_chain::{Ready, prepare, run_ready_at};
+use markup_back::canonical;
+use query_chain::{Ready, prepare_with, run_ready_at};
 use query_script::{Field, FieldValue};
 use std::alloc::Global;
 use step_index::Indexed;
+use test_registry::Tests;
 use text_base::{NoMemory, PageFault, PageReason, Seq, decode_page, plain_page};
 
 /// The line of a page that is refused, or want of memory where that is the reason.
@@ -51,14 +57,20 @@ pub fn long_answer(alloc: Global, name: &str) -> Result<Line, NoMemory>
     )
 }
 
-/// The queries of each field read and its patterns built, once for all pages of a run.
-pub fn prepare_fields(alloc: Global, fields: &[Field]) -> Result<Vec<Ready>, NoMemory>
-    requires { AllByRecursion IsOrdered fields.now }
-    ensures { IfOk result (λ ready. AreTasks fields.now ready.items) }
+/// The queries of each field read over the stored tests and its patterns built, once for all pages of a run.
+pub fn prepare_fields(
+    alloc: Global,
+    fields: &[Field],
+    tests: &Tests,
+) -> Result<Vec<Ready>, NoMemory>
+    requires ordered { AllByRecursion (IsOrderedOver (known tests.now)) fields.now }
+    requires stored { AllByRecursion (KeepsStored (known tests.now)) fields.now }
+    ensures tasks { IfOk result (λ ready. AreTasks (known tests.now) fields.now ready.items) }
+    ensures asks { IfOk result (λ ready. All (TaskAsks (known tests.now)) ready.items) }
 {
     let mut ready = Vec::new(alloc);
     for field in fields {
-        ready.push(prepare(alloc, field)?)?;
+        ready.push(prepare_with(alloc, field, tests)?)?;
     }
     Ok(ready)
 }
@@ -68,12 +80,14 @@ fn values_of<S: Axes>(
     alloc: Global,
     source: &S,
     ready: &[Ready],
+    tests: &Tests,
 ) -> Result<Seq<FieldValue>, NoMemory>
-    ensures { IfOk result (λ values. (fields : List Field) → AreTasks fields ready.now → AreValues (S.document source.now) fields values) }
+    requires { All (TaskAsks (known tests.now)) ready.now }
+    ensures { IfOk result (λ values. values ≡ map (outcome (S.document source.now) 0) ready.now) }
 {
     let mut values = Vec::new(alloc);
     for one in ready {
-        values.push(run_ready_at(alloc, source, one, 0)?)?;
+        values.push(run_ready_at(alloc, source, one, 0, tests)?)?;
     }
     Ok(Seq::from_vec(values))
 }
@@ -95,18 +109,20 @@ fn holds_refusal(values: &[FieldValue]) -> bool
     values.iter().any(is_refused)
 }
 
-/// The line of a document.
-fn document_answer<S: Axes>(
+/// The line of a document by the fields that are ready.
+fn values_answer<S: Axes>(
     alloc: Global,
     fields: &Seq<Field>,
     ready: &[Ready],
     name: &str,
     source: &S,
+    tests: &Tests,
 ) -> Result<Line, NoMemory>
-    requires { AreTasks fields.now ready.now }
-    ensures { IfOk result (λ line. IsValuesLine fields.now name.now (S.document source.now) (answer_of line)) }
+    requires tasks { AreTasks (known tests.now) fields.now ready.now }
+    requires asks { All (TaskAsks (known tests.now)) ready.now }
+    ensures { IfOk result (λ line. IsValuesLine (known tests.now) fields.now name.now (S.document source.now) (answer_of line)) }
 {
-    let values = values_of(alloc, source, ready)?;
+    let values = values_of(alloc, source, ready, tests)?;
     let refused = holds_refusal(values.as_slice());
     let text = page_line(alloc, name, fields, &values)?;
     Ok(Line { text, refused })
@@ -117,49 +133,77 @@ fn rows_near(text: &str) -> usize {
     text.len() / 8 + 16
 }
 
-/// The line of a page within the limit whose bytes decode to the text. Its document lies in an arena of its own, with
-/// tables over it.
+/// The canonical markup of a document.
+fn markup_answer<T: Tree>(alloc: Global, name: &str, tree: &T) -> Result<Line, NoMemory>
+    ensures { IfOk result (λ line. IsMarkupLine name.now (T.document tree.now) (answer_of line)) }
+{
+    let _ = name;
+    let text = canonical(alloc, tree)?;
+    Ok(Line {
+        text,
+        refused: false,
+    })
+}
+
+/// The line of the document of a tree. Tables are laid over it where queries are run on it.
+fn tree_answer<T: Tree + Drop>(
+    alloc: Global,
+    asked: Asked<'_>,
+    name: &str,
+    tree: T,
+    tests: &Tests,
+) -> Result<Line, NoMemory>
+    requires { IsReady (known tests.now) asked }
+    ensures { IfOk result (λ line. shown_by (known tests.now) asked.entry name.now (T.document tree) (answer_of line)) }
+{
+    match asked {
+        Asked::Values(fields, ready) => {
+            let source = Indexed::without_ids(alloc, tree)?;
+            values_answer(alloc, fields, ready, name, &source, tests)
+        }
+        Asked::Markup => markup_answer(alloc, name, &tree),
+    }
+}
+
+/// The line of a page within the limit whose bytes decode to the text. Its document lies in an arena of its own.
 fn text_answer(
     alloc: Global,
-    fields: &Seq<Field>,
-    ready: &[Ready],
+    asked: Asked<'_>,
     name: &str,
     text: &str,
+    tests: &Tests,
 ) -> Result<Line, NoMemory>
-    requires ready { AreTasks fields.now ready.now }
+    requires ready { IsReady (known tests.now) asked }
     requires short { length text.now ≤ most_page }
-    ensures { IfOk result (λ line. IsTextLine (IsValuesLine fields.now) name.now text.now (answer_of line)) }
+    ensures { IfOk result (λ line. IsTextLine (shown_by (known tests.now) asked.entry) name.now text.now (answer_of line)) }
 {
     let arena = Bump::new(alloc);
     let grow = ArenaGrow::with_room(&arena, rows_near(text))?;
     match read_html(alloc, text, grow) {
-        Ok(tree) => {
-            let source = Indexed::new(alloc, tree)?;
-            document_answer(alloc, fields, ready, name, &source)
-        }
+        Ok(tree) => tree_answer(alloc, asked, name, tree, tests),
         Err(fault) => refused_answer(alloc, name, fault),
     }
 }
 
-/// The line of a page: the fields with their values in the tree that the bytes spell, or why the page is refused, and where.
+/// The line of a page: what is asked of the document that the bytes spell, or why the page is refused, and where.
 pub fn page_answer(
     alloc: Global,
-    fields: &Seq<Field>,
-    ready: &[Ready],
+    asked: Asked<'_>,
     name: &str,
     bytes: &[u8],
+    tests: &Tests,
 ) -> Result<Line, NoMemory>
-    requires { AreTasks fields.now ready.now }
-    ensures { IfOk result (λ line. IsPageLine (IsValuesLine fields.now) name.now bytes.now (answer_of line)) }
+    requires { IsReady (known tests.now) asked }
+    ensures { IfOk result (λ line. IsPageLine (shown_by (known tests.now) asked.entry) name.now bytes.now (answer_of line)) }
 {
     if bytes.len() > PAGE_LIMIT {
         return long_answer(alloc, name);
     }
     if let Some(text) = plain_page(bytes) {
-        return text_answer(alloc, fields, ready, name, text);
+        return text_answer(alloc, asked, name, text, tests);
     }
     match decode_page(alloc, bytes) {
-        Ok(text) => text_answer(alloc, fields, ready, name, text.as_str()),
+        Ok(text) => text_answer(alloc, asked, name, text.as_str(), tests),
         Err(fault) => refused_answer(alloc, name, fault),
     }
 }

@@ -3,43 +3,45 @@ ghost use Rattle.std.specs.Prelude.{◌≡◌, ◌≢◌, ◌⊎◌, ℕ, List, 
 ghost use Rattle.std.specs.List.{AllByRecursion};
 ghost use Rattle.io_edges.specs.Counts.{Rose, Grows};
 ghost use Rattle.io_edges.specs.Pages.{page, Lacks};
-ghost use Rattle.query_script.specs.Ordered.{IsOrdered};
+ghost use Rattle.test_registry.specs.View.{known};
+ghost use Rattle.query_script.specs.Ordered.{IsOrderedOver, KeepsStored};
 ghost use Rattle.extract_call.specs.Answers.{Answer, answer_of};
-ghost use Rattle.extract_call.specs.OnePage.{TakesLine, TakesLinePart, status_of};
+ghost use Rattle.extract_call.specs.inner.OnePage.{TakesLine, TakesLinePart, Counted, status_of};
 ghost use Rattle.extract_call.specs.PageLines.{IsPageLine, IsValuesLine, MakesLines};
 ghost use Rattle.extract_call.specs.Plans.{over};
-ghost use Rattle.extract_call.specs.Runs.{SinkAt, pages_at, sink_at, Counted, Run};
-ghost use Rattle.extract_call.specs.Tasks.{AreTasks};
+ghost use Rattle.extract_call.specs.Runs.{SinkAt, pages_at, sink_at, Run};
+ghost use Rattle.extract_call.specs.inner.Asked.{shown_by, IsReady};
 
 use crate::answers::Line;
+use crate::asked::Asked;
 use crate::laws::laws_below;
 use crate::page_lines::{long_answer, page_answer, prepare_fields};
 use crate::status::Status;
 use crate::writing::write_line;
 use io_edges::{Pages, ReadEnd, Sink, read_page};
-use query_chain::Ready;
 use query_script::Field;
 use std::alloc::Global;
+use test_registry::Tests;
 use text_base::Seq;
 
 /// Reads a page and makes its line.
 fn read_line<P: Pages>(
     alloc: Global,
-    fields: &Seq<Field>,
-    ready: &[Ready],
+    asked: Asked<'_>,
     name: &str,
     pages: &mut P,
+    tests: &Tests,
 ) -> Result<Line, Status>
-    requires { AreTasks fields.now ready.now }
+    requires { IsReady (known tests.now) asked }
     ensures begun { Grows (P.begun pages.old) 1 (P.begun pages.new) }
     ensures counts { (sink : SinkAt) → Counted (pages_at pages.old (P.told pages.old) (P.begun pages.old) (P.faults pages.old))
         (pages_at pages.new (P.told pages.new) (P.begun pages.new) (P.faults pages.new)) sink sink (status_of result) }
-    ensures ok { IfOk result (λ line. IfSome (P.told pages.old) (λ told. (bytes : List ℕ) × ((page told name.now ≡ Some bytes) × IsPageLine (IsValuesLine fields.now) name.now bytes (answer_of line)))) }
+    ensures ok { IfOk result (λ line. IfSome (P.told pages.old) (λ told. (bytes : List ℕ) × ((page told name.now ≡ Some bytes) × IsPageLine (shown_by (known tests.now) asked.entry) name.now bytes (answer_of line)))) }
     ensures read_fault { IsErrOf result Status.ReadFault → Rose (P.faults pages.old) (P.faults pages.new) ⊎ Lacks (P.told pages.old) name.now }
     ensures other { (result ≢ Err Status.Done) × (result ≢ Err Status.Refused) × (result ≢ Err Status.Usage) × (result ≢ Err Status.WriteFault) }
 {
     let made = match read_page(alloc, pages, name) {
-        Ok(bytes) => page_answer(alloc, fields, ready, name, bytes.as_slice()),
+        Ok(bytes) => page_answer(alloc, asked, name, bytes.as_slice(), tests),
         Err(ReadEnd::Fault) => return Err(Status::ReadFault),
         Err(ReadEnd::TooLong) => long_answer(alloc, name),
         Err(ReadEnd::Memory) => return Err(Status::Memory),
@@ -53,25 +55,25 @@ fn read_line<P: Pages>(
 /// Reads a page, writes its line, and tells whether it holds a refusal.
 fn write_page<P: Pages, W: Sink>(
     alloc: Global,
-    fields: &Seq<Field>,
-    ready: &[Ready],
+    asked: Asked<'_>,
     name: &str,
     pages: &mut P,
     sink: &mut W,
+    tests: &Tests,
 ) -> Result<bool, Status>
-    requires { AreTasks fields.now ready.now }
+    requires { IsReady (known tests.now) asked }
     ensures begun { Grows (P.begun pages.old) 1 (P.begun pages.new) }
     ensures counts { Counted (pages_at pages.old (P.told pages.old) (P.begun pages.old) (P.faults pages.old))
         (pages_at pages.new (P.told pages.new) (P.begun pages.new) (P.faults pages.new))
         (sink_at (W.taken sink.old) (W.faults sink.old)) (sink_at (W.taken sink.new) (W.faults sink.new)) (status_of result) }
-    ensures ok { IfOk result (λ r. (line : List ℕ → List ℕ → Answer) → MakesLines (IsValuesLine fields.now) line → TakesLine line (P.told pages.old) name.now (W.taken sink.old) (W.taken sink.new) r) }
-    ensures err { OnErr result ((line : List ℕ → List ℕ → Answer) → MakesLines (IsValuesLine fields.now) line →
+    ensures ok { IfOk result (λ r. (line : List ℕ → List ℕ → Answer) → MakesLines (shown_by (known tests.now) asked.entry) line → TakesLine line (P.told pages.old) name.now (W.taken sink.old) (W.taken sink.new) r) }
+    ensures err { OnErr result ((line : List ℕ → List ℕ → Answer) → MakesLines (shown_by (known tests.now) asked.entry) line →
         (W.taken sink.new ≡ W.taken sink.old) ⊎ TakesLinePart line (P.told pages.old) name.now (W.taken sink.old) (W.taken sink.new)) }
     ensures read_fault { IsErrOf result Status.ReadFault → (Rose (P.faults pages.old) (P.faults pages.new) ⊎ Lacks (P.told pages.old) name.now) × (W.taken sink.new ≡ W.taken sink.old) }
     ensures other { (result ≢ Err Status.Done) × (result ≢ Err Status.Refused) × (result ≢ Err Status.Usage) }
 {
     laws_below();
-    match read_line(alloc, fields, ready, name, pages) {
+    match read_line(alloc, asked, name, pages, tests) {
         Ok(line) => match write_line(line, sink) {
             Ok(refused) => Ok(refused),
             Err(status) => Err(status),
@@ -80,20 +82,17 @@ fn write_page<P: Pages, W: Sink>(
     }
 }
 
-/// Reads each page and writes its line, by fields that are ready.
-fn write_each<P: Pages, W: Sink>(
+/// Reads each page and writes its line.
+pub fn write_each<P: Pages, W: Sink>(
     alloc: Global,
-    fields: &Seq<Field>,
-    ready: &[Ready],
+    asked: Asked<'_>,
     names: &[String],
     pages: &mut P,
     sink: &mut W,
+    tests: &Tests,
 ) -> Status
-    requires { AreTasks fields.now ready.now }
-    ensures run { (line : List ℕ → List ℕ → Answer) → MakesLines (IsValuesLine fields.now) line → Run (over line (map string_bytes names.now)) (pages_at pages.old (P.told pages.old) (P.begun pages.old) (P.faults pages.old))
-        (pages_at pages.new (P.told pages.new) (P.begun pages.new) (P.faults pages.new))
-        (sink_at (W.taken sink.old) (W.faults sink.old)) (sink_at (W.taken sink.new) (W.faults sink.new)) result }
-    ensures counts { Counted (pages_at pages.old (P.told pages.old) (P.begun pages.old) (P.faults pages.old))
+    requires { IsReady (known tests.now) asked }
+    ensures run { (line : List ℕ → List ℕ → Answer) → MakesLines (shown_by (known tests.now) asked.entry) line → Run (over line (map string_bytes names.now)) (pages_at pages.old (P.told pages.old) (P.begun pages.old) (P.faults pages.old))
         (pages_at pages.new (P.told pages.new) (P.begun pages.new) (P.faults pages.new))
         (sink_at (W.taken sink.old) (W.faults sink.old)) (sink_at (W.taken sink.new) (W.faults sink.new)) result }
     ensures other { result ≢ Status.Usage }
@@ -101,7 +100,7 @@ fn write_each<P: Pages, W: Sink>(
     laws_below();
     let mut refused = false;
     for name in names {
-        match write_page(alloc, fields, ready, name.as_str(), pages, sink) {
+        match write_page(alloc, asked, name.as_str(), pages, sink, tests) {
             Ok(one) => refused = refused || one,
             Err(status) => return status,
         }
@@ -121,19 +120,25 @@ pub fn write_pages<P: Pages, W: Sink>(
     names: &[String],
     pages: &mut P,
     sink: &mut W,
+    tests: &Tests,
 ) -> Status
-    requires { AllByRecursion IsOrdered fields.now }
-    ensures run { (line : List ℕ → List ℕ → Answer) → MakesLines (IsValuesLine fields.now) line → Run (over line (map string_bytes names.now)) (pages_at pages.old (P.told pages.old) (P.begun pages.old) (P.faults pages.old))
-        (pages_at pages.new (P.told pages.new) (P.begun pages.new) (P.faults pages.new))
-        (sink_at (W.taken sink.old) (W.faults sink.old)) (sink_at (W.taken sink.new) (W.faults sink.new)) result }
-    ensures counts { Counted (pages_at pages.old (P.told pages.old) (P.begun pages.old) (P.faults pages.old))
+    requires ordered { AllByRecursion (IsOrderedOver (known tests.now)) fields.now }
+    requires stored { AllByRecursion (KeepsStored (known tests.now)) fields.now }
+    ensures run { (line : List ℕ → List ℕ → Answer) → MakesLines (IsValuesLine (known tests.now) fields.now) line → Run (over line (map string_bytes names.now)) (pages_at pages.old (P.told pages.old) (P.begun pages.old) (P.faults pages.old))
         (pages_at pages.new (P.told pages.new) (P.begun pages.new) (P.faults pages.new))
         (sink_at (W.taken sink.old) (W.faults sink.old)) (sink_at (W.taken sink.new) (W.faults sink.new)) result }
     ensures other { result ≢ Status.Usage }
 {
     laws_below();
-    match prepare_fields(alloc, fields.as_slice()) {
-        Ok(ready) => write_each(alloc, fields, ready.as_slice(), names, pages, sink),
+    match prepare_fields(alloc, fields.as_slice(), tests) {
+        Ok(ready) => write_each(
+            alloc,
+            Asked::Values(fields, ready.as_slice()),
+            names,
+            pages,
+            sink,
+            tests,
+        ),
         Err(_) => Status::Memory,
     }
 }

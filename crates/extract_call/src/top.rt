@@ -1,33 +1,33 @@
 //! The top call.
-ghost use Rattle.std.specs.Prelude.{◌≡◌, ◌≢◌, ◌↔◌, ◌≤◌, ℕ, List, None, Some, map, IfSome, string_bytes};
-ghost use Rattle.css_selectors.specs.declared.selector.SelectorList.{SelectorList};
-ghost use Rattle.css_parser.specs.Selecting.{Accepts};
-ghost use Rattle.extract_call.specs.Bulk.{bulk_script};
-ghost use Rattle.extract_call.specs.CssLines.{IsKept};
-ghost use Rattle.extract_call.specs.Laws.{CanBeRun, HasQueries};
+ghost use Rattle.std.specs.Prelude.{◌≡◌, ◌≢◌, ◌↔◌, ◌≤◌, ℕ, List, [], None, Some, map, IfSome, string_bytes};
+ghost use Rattle.test_registry.specs.Names.{Known};
+ghost use Rattle.test_registry.specs.View.{known};
+ghost use Rattle.css_selectors.specs.declared.selector.Dialect.{Dialect};
 ghost use Rattle.extract_call.specs.Plans.{ForPlan};
-ghost use Rattle.extract_call.specs.Runs.{PagesAt, pages_at, sink_at, Counted, Run};
-ghost use Rattle.extract_call.specs.Words.{css, run, bulk, read, command_of};
+ghost use Rattle.extract_call.specs.Runs.{PagesAt, pages_at, sink_at, Run};
+ghost use Rattle.extract_call.specs.Selectors.{IsSelectorOf, IsKept};
+ghost use Rattle.extract_call.specs.Words.{css, run, bulk, clean, read, command_of};
 
 use crate::answers::{css_answer, script_answer};
+use crate::asked::Asked;
 use crate::bulk::bulk_answer;
 use crate::laws::laws_below;
-use crate::pages::write_pages;
+use crate::pages::{write_each, write_pages};
 use crate::status::Status;
 use crate::words::{Form, read};
 use crate::writing::write_alone;
 use css_selectors::Dialect;
 use io_edges::{Pages, Sink};
-use query_script::parse_script;
+use query_script::parse_script_with;
 use std::alloc::Global;
+use std::slice::from_ref;
+use test_registry::Tests;
 use text_base::ScriptFault;
 
-/// Writes the line of a selector.
+/// Writes the line of a selector, whatever tests are stored.
 fn write_css<W: Sink>(alloc: Global, dialect: Dialect, selector: &str, sink: &mut W) -> Status
-    ensures run { ForPlan (Some (css dialect selector.now)) (λ plan. (none : PagesAt (Unit {0})) →
+    ensures run { (tests : Known) → ForPlan tests (Some (css dialect selector.now)) (λ plan. (none : PagesAt (Unit {0})) →
         Run plan none none (sink_at (W.taken sink.old) (W.faults sink.old)) (sink_at (W.taken sink.new) (W.faults sink.new)) result) }
-    ensures counts { (none : PagesAt (Unit {0})) → Counted none none (sink_at (W.taken sink.old) (W.faults sink.old)) (sink_at (W.taken sink.new) (W.faults sink.new)) result }
-    ensures meaning { (list : SelectorList) → Accepts selector.now list → result ≡ Status.Done → IsKept dialect list }
     ensures other { result ≢ Status.Usage }
 {
     laws_below();
@@ -35,17 +35,15 @@ fn write_css<W: Sink>(alloc: Global, dialect: Dialect, selector: &str, sink: &mu
 }
 
 /// Writes the line of the bulk page.
-fn write_bulk<W: Sink>(alloc: Global, n: u32, sink: &mut W) -> Status
+fn write_bulk<W: Sink>(alloc: Global, n: u32, sink: &mut W, tests: &Tests) -> Status
     requires some { 1 ≤ n }
     requires most { n ≤ 20000 }
-    ensures run { ForPlan (Some (bulk n)) (λ plan. (none : PagesAt (Unit {0})) →
+    ensures run { ForPlan (known tests.now) (Some (bulk n)) (λ plan. (none : PagesAt (Unit {0})) →
         Run plan none none (sink_at (W.taken sink.old) (W.faults sink.old)) (sink_at (W.taken sink.new) (W.faults sink.new)) result) }
-    ensures counts { (none : PagesAt (Unit {0})) → Counted none none (sink_at (W.taken sink.old) (W.faults sink.old)) (sink_at (W.taken sink.new) (W.faults sink.new)) result }
-    ensures queries { result ≢ Status.Memory → HasQueries Dialect.Html bulk_script }
     ensures other { result ≢ Status.Usage }
 {
     laws_below();
-    write_alone(bulk_answer(alloc, n), sink)
+    write_alone(bulk_answer(alloc, n, tests), sink)
 }
 
 /// Writes the line of each page, or that of a script that is refused as a whole.
@@ -56,22 +54,35 @@ fn write_run<P: Pages, W: Sink>(
     names: &[String],
     pages: &mut P,
     sink: &mut W,
+    tests: &Tests,
 ) -> Status
-    ensures run { ForPlan (Some (run dialect script.now (map string_bytes names.now))) (λ plan. Run plan (pages_at pages.old (P.told pages.old) (P.begun pages.old) (P.faults pages.old))
+    ensures run { ForPlan (known tests.now) (Some (run dialect script.now (map string_bytes names.now))) (λ plan. Run plan (pages_at pages.old (P.told pages.old) (P.begun pages.old) (P.faults pages.old))
         (pages_at pages.new (P.told pages.new) (P.begun pages.new) (P.faults pages.new))
         (sink_at (W.taken sink.old) (W.faults sink.old)) (sink_at (W.taken sink.new) (W.faults sink.new)) result) }
-    ensures counts { Counted (pages_at pages.old (P.told pages.old) (P.begun pages.old) (P.faults pages.old))
-        (pages_at pages.new (P.told pages.new) (P.begun pages.new) (P.faults pages.new))
-        (sink_at (W.taken sink.old) (W.faults sink.old)) (sink_at (W.taken sink.new) (W.faults sink.new)) result }
-    ensures queries { result ≢ Status.Memory → HasQueries dialect script.now }
     ensures other { result ≢ Status.Usage }
 {
     laws_below();
-    match parse_script(alloc, dialect, script) {
-        Ok(read) => write_pages(alloc, &read.fields, names, pages, sink),
+    match parse_script_with(alloc, dialect, script, tests) {
+        Ok(read) => write_pages(alloc, &read.fields, names, pages, sink, tests),
         Err(ScriptFault::Memory) => Status::Memory,
         Err(fault) => write_alone(script_answer(alloc, script, fault), sink),
     }
+}
+
+/// Writes the canonical markup of the page, or why it is refused, whatever tests are stored.
+fn write_clean<P: Pages, W: Sink>(
+    alloc: Global,
+    page: &String,
+    pages: &mut P,
+    sink: &mut W,
+    tests: &Tests,
+) -> Status
+    ensures run { ForPlan (known tests.now) (Some (clean (string_bytes page.now))) (λ plan. Run plan (pages_at pages.old (P.told pages.old) (P.begun pages.old) (P.faults pages.old))
+        (pages_at pages.new (P.told pages.new) (P.begun pages.new) (P.faults pages.new))
+        (sink_at (W.taken sink.old) (W.faults sink.old)) (sink_at (W.taken sink.new) (W.faults sink.new)) result) }
+    ensures other { result ≢ Status.Usage }
+{
+    write_each(alloc, Asked::Markup, from_ref(page), pages, sink, tests)
 }
 
 /// Writes what the words ask for.
@@ -80,34 +91,56 @@ fn write_form<P: Pages, W: Sink>(
     form: Form<'_>,
     pages: &mut P,
     sink: &mut W,
+    tests: &Tests,
 ) -> Status
     requires { (n : ℕ) → command_of form ≡ Some (bulk n) → (1 ≤ n) × (n ≤ 20000) }
     ensures usage { result ≡ Status.Usage ↔ command_of form.entry ≡ None }
     ensures idle { command_of form.entry ≡ None → (pages.new ≡ pages.old) × (sink.new ≡ sink.old) }
-    ensures run { ForPlan (command_of form.entry) (λ plan. Run plan (pages_at pages.old (P.told pages.old) (P.begun pages.old) (P.faults pages.old))
+    ensures run { ForPlan (known tests.now) (command_of form.entry) (λ plan. Run plan (pages_at pages.old (P.told pages.old) (P.begun pages.old) (P.faults pages.old))
         (pages_at pages.new (P.told pages.new) (P.begun pages.new) (P.faults pages.new))
         (sink_at (W.taken sink.old) (W.faults sink.old)) (sink_at (W.taken sink.new) (W.faults sink.new)) result) }
-    ensures counts { Counted (pages_at pages.old (P.told pages.old) (P.begun pages.old) (P.faults pages.old))
-        (pages_at pages.new (P.told pages.new) (P.begun pages.new) (P.faults pages.new))
-        (sink_at (W.taken sink.old) (W.faults sink.old)) (sink_at (W.taken sink.new) (W.faults sink.new)) result }
-    ensures queries { IfSome (command_of form.entry) (λ command. result ≢ Status.Memory → CanBeRun command) }
-    ensures meaning { (d : Dialect) → (s : List ℕ) → (list : SelectorList) → command_of form.entry ≡ Some (css d s) → Accepts s list →
-        result ≡ Status.Done → IsKept d list }
 {
     match form {
         Form::Css(dialect, selector) => write_css(alloc, dialect, selector, sink),
-        Form::Run(dialect, script, names) => write_run(alloc, dialect, script, names, pages, sink),
-        Form::Bulk(n) => write_bulk(alloc, n, sink),
+        Form::Run(dialect, script, names) => {
+            write_run(alloc, dialect, script, names, pages, sink, tests)
+        }
+        Form::Bulk(n) => write_bulk(alloc, n, sink, tests),
+        Form::Clean(page) => write_clean(alloc, page, pages, sink, tests),
         Form::Other => Status::Usage,
     }
 }
 
-/// Runs what the words say: `css DIALECT SELECTOR` writes the line of a selector, `run DIALECT SCRIPT PAGE..` a line for each
-/// page, and `bulk N` the line of the bulk page of N items.
+/// Runs what the words say, where these tests are stored: `css DIALECT SELECTOR` writes the line of a selector,
+/// `run DIALECT SCRIPT PAGE..` a line for each page, `bulk N` the line of the bulk page of N items, and `clean PAGE` the canonical
+/// markup of the page. A script may ask the tests by their names, in XPath and in `keep`.
 ///
 /// Whatever the status, the sink took a prefix of the output. `Usage` comes exactly where the words have none of the forms, and
 /// then nothing was read or written. A page that is refused has its line, and the run goes on; a page that can't be read ends it.
 /// The fields of a script are prepared once, before the first page is begun.
+pub fn extract_with<P: Pages, W: Sink>(
+    alloc: Global,
+    words: &[String],
+    pages: &mut P,
+    sink: &mut W,
+    tests: &Tests,
+) -> Status
+    ensures usage { result ≡ Status.Usage ↔ read (map string_bytes words.now) ≡ None }
+    ensures idle { result ≡ Status.Usage → (pages.new ≡ pages.old) × (sink.new ≡ sink.old) }
+
+    // What was begun and written, whatever the status. The command has exactly one plan: the law `the_plan`.
+    ensures run { ForPlan (known tests.now) (read (map string_bytes words.now)) (λ plan. Run plan (pages_at pages.old (P.told pages.old) (P.begun pages.old) (P.faults pages.old))
+        (pages_at pages.new (P.told pages.new) (P.begun pages.new) (P.faults pages.new))
+        (sink_at (W.taken sink.old) (W.faults sink.old)) (sink_at (W.taken sink.new) (W.faults sink.new)) result) }
+
+    // The XPath of each selector of the words keeps the selector's meaning: that of `css`, and those of the css steps of a script.
+    ensures meaning { IfSome (read (map string_bytes words.now)) (λ command. (d : Dialect) (text : List ℕ) → IsSelectorOf command d text → IsKept d text) }
+{
+    laws_below();
+    write_form(alloc, read(words), pages, sink, tests)
+}
+
+/// Runs what the words say where no tests are stored.
 pub fn extract<P: Pages, W: Sink>(
     alloc: Global,
     words: &[String],
@@ -116,24 +149,10 @@ pub fn extract<P: Pages, W: Sink>(
 ) -> Status
     ensures usage { result ≡ Status.Usage ↔ read (map string_bytes words.now) ≡ None }
     ensures idle { result ≡ Status.Usage → (pages.new ≡ pages.old) × (sink.new ≡ sink.old) }
-
-    // What is told of the pages stays, no count of faults falls, and each rises only in a run that ends by such a fault.
-    ensures counts { Counted (pages_at pages.old (P.told pages.old) (P.begun pages.old) (P.faults pages.old))
-        (pages_at pages.new (P.told pages.new) (P.begun pages.new) (P.faults pages.new))
-        (sink_at (W.taken sink.old) (W.faults sink.old)) (sink_at (W.taken sink.new) (W.faults sink.new)) result }
-
-    // What was begun and written, whatever the status.
-    ensures run { ForPlan (read (map string_bytes words.now)) (λ plan. Run plan (pages_at pages.old (P.told pages.old) (P.begun pages.old) (P.faults pages.old))
+    ensures run { ForPlan [] (read (map string_bytes words.now)) (λ plan. Run plan (pages_at pages.old (P.told pages.old) (P.begun pages.old) (P.faults pages.old))
         (pages_at pages.new (P.told pages.new) (P.begun pages.new) (P.faults pages.new))
         (sink_at (W.taken sink.old) (W.faults sink.old)) (sink_at (W.taken sink.new) (W.faults sink.new)) result) }
-
-    // Each query of a script reads as an expression, a css step by its printed text, and stands where nodes come to it. So the
-    // command has a plan, and it is the only one: the law `the_plan`.
-    ensures queries { IfSome (read (map string_bytes words.now)) (λ command. result ≢ Status.Memory → CanBeRun command) }
-
-    // The XPath of an accepted list keeps its meaning.
-    ensures meaning { (d : Dialect) → (s : List ℕ) → (list : SelectorList) → read (map string_bytes words.now) ≡ Some (css d s) → Accepts s list →
-        result ≡ Status.Done → IsKept d list }
+    ensures meaning { IfSome (read (map string_bytes words.now)) (λ command. (d : Dialect) (text : List ℕ) → IsSelectorOf command d text → IsKept d text) }
 {
-    write_form(alloc, read(words), pages, sink)
+    extract_with(alloc, words, pages, sink, &Tests::new(alloc))
 }

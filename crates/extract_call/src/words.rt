@@ -14,6 +14,8 @@ pub enum Form<'w> {
     Run(Dialect, &'w str, &'w [String]),
     /// `bulk N`: the line of the bulk page of N items.
     Bulk(u32),
+    /// `clean PAGE`: the canonical markup of the page.
+    Clean(&'w String),
     /// None of the forms.
     Other,
 }
@@ -59,25 +61,28 @@ fn count_of(word: &str) -> Option<u32>
     Some(value)
 }
 
-/// `bulk N`.
-fn bulk_form<'w>(first: &'w str, count: &'w str) -> Form<'w>
-    ensures { command_of result ≡ read (first.now ∷ count.now ∷ []) }
+/// `bulk N` or `clean PAGE`.
+fn of_two<'w>(first: &'w str, second: &'w String) -> Form<'w>
+    ensures { command_of result ≡ read (first.now ∷ string_bytes second.now ∷ []) }
 {
-    if first != "bulk" {
-        return Form::Other;
+    if first == "bulk" {
+        return match count_of(second.as_str()) {
+            Some(n) => Form::Bulk(n),
+            None => Form::Other,
+        };
     }
-    match count_of(count) {
-        Some(n) => Form::Bulk(n),
-        None => Form::Other,
+    if first == "clean" {
+        return Form::Clean(second);
     }
+    Form::Other
 }
 
 /// What the words say.
 pub fn read(words: &[String]) -> Form<'_>
     ensures { command_of result ≡ read (map string_bytes words.now) }
 {
-    if let [first, count] = words {
-        return bulk_form(first.as_str(), count.as_str());
+    if let [first, second] = words {
+        return of_two(first.as_str(), second);
     }
     if let [first, dialect, selector] = words {
         if first.as_str() != "css" {

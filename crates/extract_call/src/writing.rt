@@ -4,7 +4,7 @@ ghost use Rattle.io_edges.specs.Counts.{Rose};
 ghost use Rattle.io_edges.specs.Sink.{grown, TakesPart};
 ghost use Rattle.extract_call.specs.Answers.{Answer, answer_of, line_bytes};
 ghost use Rattle.extract_call.specs.Plans.{alone};
-ghost use Rattle.extract_call.specs.Runs.{PagesAt, sink_at, Counted, Run};
+ghost use Rattle.extract_call.specs.Runs.{PagesAt, sink_at, Run};
 
 use crate::answers::Line;
 use crate::laws::laws_below;
@@ -38,7 +38,6 @@ pub fn write_line<W: Sink>(line: Line, sink: &mut W) -> Result<bool, Status>
 pub fn write_alone<W: Sink>(made: Result<Line, NoMemory>, sink: &mut W) -> Status
     ensures run { (a : Answer) → IfOk made (λ line. answer_of line ≡ a) → (none : PagesAt (Unit {0})) →
         Run (alone a) none none (sink_at (W.taken sink.old) (W.faults sink.old)) (sink_at (W.taken sink.new) (W.faults sink.new)) result }
-    ensures counts { (none : PagesAt (Unit {0})) → Counted none none (sink_at (W.taken sink.old) (W.faults sink.old)) (sink_at (W.taken sink.new) (W.faults sink.new)) result }
     ensures done { result ≡ Status.Done → IsOkAnd made (λ line. line.refused ≡ false) }
     ensures made { result ≢ Status.Memory → IsOk made }
     ensures other { result ≢ Status.Usage }

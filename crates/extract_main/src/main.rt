@@ -1,10 +1,13 @@
-//! The program `extract`: compiles CSS selectors to XPath, and runs scripts of queries on pages.
+//! The program `extract`: compiles CSS selectors to XPath, runs scripts of queries on pages, and writes pages as canonical markup.
 #![tactic(auto)]
 
 ghost use Rattle.std.specs.Prelude.{◌≡◌};
 ghost use Rattle.extract_main.specs.Messages as messages;
 
-use extract_call::{Status, extract};
+mod stored;
+
+use crate::stored::run_words;
+use extract_call::Status;
 use io_edges::{FilePages, StdoutSink};
 use std::env;
 use std::io::ErrorKind;
@@ -37,7 +40,10 @@ fn status_of(rt: &HostRuntime) -> Status {
         Ok(words) => {
             let mut pages = FilePages::new(rt);
             let mut sink = StdoutSink::new(rt);
-            extract(rt.alloc(), words.as_slice(), &mut pages, &mut sink)
+            match run_words(rt.alloc(), words.as_slice(), &mut pages, &mut sink) {
+                Ok(status) => status,
+                Err(_) => Status::Memory,
+            }
         }
         Err(status) => status,
     }

@@ -1,10 +1,6 @@
-use Rattle.std.proofs.Common.{List, take}
-use Rattle.query_script.specs.declared.script.Field.{Field}
-use Rattle.extract_call.specs.PageLines.{AreValues}
-use Rattle.extract_call.specs.Tasks.{AreTasks}
+use Rattle.std.proofs.Common.{◌≡◌, take, map}
+use Rattle.query_chain.specs.Chains.{outcome}
 use Rattle.extract_call.proofs.page_lines.values_of.Given as goal
 
 abbrev pub invariant-loop-one : goal.invariant-loop-one
-invariant-loop-one g l = record {
-  of_fields : (fields : List Field) → AreTasks fields (take l.one-index l.ready) → AreValues (g.S.Tree.document l.source) fields l.values.items;
-}
+invariant-loop-one g l = l.values.items ≡ map (outcome (g.S.Tree.document l.source) 0) (take l.one-index l.ready)

@@ -1,8 +1,8 @@
 use Rattle.std.proofs.Common.{◌≡◌, arith, length, string_bytes, map, ◌∙◌, ap}
 use Rattle.std.specs.Prelude.{◌||◌}
 use Rattle.extract_call.specs.Plans.{over}
-use Rattle.extract_call.proofs.Complete.{run_of, unfaulted}
-use Rattle.extract_call.proofs.Walk.{rose_from, ended_at, ended_done, ended_refused, next_page, name_at, place_within, places}
+use Rattle.extract_call.proofs.Complete.{run_of, counted_after, unfaulted}
+use Rattle.extract_call.proofs.Walk.{ended_at, ended_done, ended_refused, next_page, name_at, place_within, places}
 use Rattle.extract_call.proofs.pages.write_each.Goals as goal
 use Rattle.extract_call.proofs.pages.write_each.Goals.{then-refused, else-refused}
 
@@ -30,17 +30,8 @@ returns-in-Err-clause-run g c = λ line makes.
     (ended_at c.laws_below.ensures.takings line (g.P.Pages.told c.args.pages.now) (map string_bytes c.args.names.now) c.loop-name.name-index _ _ _ c.loop-name.refused (string_bytes c.name-item.result)
     _ _ _ _ _ _ _ _ _ _ (c.loop-name.invariant.written line makes) within here c.loop-name.invariant.begun c.in-Err.ensures.begun (omega (arith, c.loop-name.invariant.pages_uncounted)) (omega (arith, c.loop-name.invariant.sink_uncounted)) (part line makes)
     (λ e. cause (cc)) c.in-Err.ensures.counts.write_fault (λ e. c.in-Err.ensures.other.0 (cc)) (λ e. c.in-Err.ensures.other.1 (cc)) (λ e. c.in-Err.ensures.other.2 (cc)))
+    (counted_after _ _ _ _ _ _ _ c.loop-name.invariant.told c.loop-name.invariant.pages_uncounted c.loop-name.invariant.sink_uncounted c.in-Err.ensures.counts)
     (λ none. absurd (let z : length (map string_bytes c.args.names.now) ≡ 0 = ap length none in omega (arith, within)))
-
-pub returns-in-Err-clause-counts : goal.returns-in-Err-clause-counts
-returns-in-Err-clause-counts g c = record {
-  told = c.in-Err.ensures.counts.told ∙ c.loop-name.invariant.told;
-  write_fault = λ z. rose_from _ _ _ (omega (arith, c.loop-name.invariant.sink_uncounted)) (c.in-Err.ensures.counts.write_fault z);
-  page_faults = omega (arith, c.loop-name.invariant.pages_uncounted, c.in-Err.ensures.counts.page_faults);
-  sink_faults = omega (arith, c.loop-name.invariant.sink_uncounted, c.in-Err.ensures.counts.sink_faults);
-  pages_uncounted = λ z. c.in-Err.ensures.counts.pages_uncounted z ∙ c.loop-name.invariant.pages_uncounted;
-  sink_uncounted = λ z. c.in-Err.ensures.counts.sink_uncounted z ∙ c.loop-name.invariant.sink_uncounted;
-}
 
 pub returns-then-refused-2-clause-run : goal.returns-then-refused-2-clause-run
 returns-then-refused-2-clause-run g c = λ line makes.
@@ -48,11 +39,8 @@ returns-then-refused-2-clause-run g c = λ line makes.
     let last : c.loop-name.name-index ≡ length (map string_bytes c.args.names.now) = omega (arith, places c.args.names.now) in
     run_of (over line (map string_bytes c.args.names.now)) _ _ _ _ _
     (ended_refused c.laws_below.ensures.takings line (g.P.Pages.told c.args.pages.now) (map string_bytes c.args.names.now) c.loop-name.name-index _ _ _ _ _ _ _ _ here last c.loop-name.invariant.begun)
+    (unfaulted _ _ _ _ _ c.loop-name.invariant.told c.loop-name.invariant.pages_uncounted c.loop-name.invariant.sink_uncounted (λ z. cc))
     (λ none. c.loop-name.invariant.idle (last ∙ ap length none))
-
-pub returns-then-refused-2-clause-counts : goal.returns-then-refused-2-clause-counts
-returns-then-refused-2-clause-counts g c =
-    unfaulted _ _ _ _ _ c.loop-name.invariant.told c.loop-name.invariant.pages_uncounted c.loop-name.invariant.sink_uncounted (λ z. cc)
 
 pub returns-else-refused-2-clause-run : goal.returns-else-refused-2-clause-run
 returns-else-refused-2-clause-run g c = λ line makes.
@@ -60,8 +48,5 @@ returns-else-refused-2-clause-run g c = λ line makes.
     let last : c.loop-name.name-index ≡ length (map string_bytes c.args.names.now) = omega (arith, places c.args.names.now) in
     run_of (over line (map string_bytes c.args.names.now)) _ _ _ _ _
     (ended_done c.laws_below.ensures.takings line (g.P.Pages.told c.args.pages.now) (map string_bytes c.args.names.now) c.loop-name.name-index _ _ _ _ _ _ _ _ here last c.loop-name.invariant.begun)
+    (unfaulted _ _ _ _ _ c.loop-name.invariant.told c.loop-name.invariant.pages_uncounted c.loop-name.invariant.sink_uncounted (λ z. cc))
     (λ none. c.loop-name.invariant.idle (last ∙ ap length none))
-
-pub returns-else-refused-2-clause-counts : goal.returns-else-refused-2-clause-counts
-returns-else-refused-2-clause-counts g c =
-    unfaulted _ _ _ _ _ c.loop-name.invariant.told c.loop-name.invariant.pages_uncounted c.loop-name.invariant.sink_uncounted (λ z. cc)

@@ -1,15 +1,16 @@
 use Rattle.std.proofs.Common.{inr}
 use Rattle.extract_call.proofs.Complete.{counted_then}
+use Rattle.test_registry.specs.View.{known}
 use Rattle.extract_call.proofs.PageAnswers.{line_part, line_taken}
 use Rattle.extract_call.proofs.pages.write_page.Goals as goal
 
 pub returns-in-Ok-write_line-clause-ok : goal.returns-in-Ok-write_line-clause-ok
 returns-in-Ok-write_line-clause-ok g c = λ line makes.
-    line_taken c.laws_below.ensures c.args.fields.now line makes (g.P.Pages.told c.args.pages.now) c.args.name.now (g.W.Sink.taken c.args.sink.now) _ _ _ c.in-Ok.ensures.ok c.in-Ok-write_line.ensures.ok.0 c.in-Ok-write_line.ensures.ok.1
+    line_taken c.laws_below.ensures (known c.args.tests.now) c.args.asked line makes (g.P.Pages.told c.args.pages.now) c.args.name.now (g.W.Sink.taken c.args.sink.now) _ _ _ c.in-Ok.ensures.ok c.in-Ok-write_line.ensures.ok.0 c.in-Ok-write_line.ensures.ok.1
 
 pub returns-in-Err-write_line-clause-err : goal.returns-in-Err-write_line-clause-err
 returns-in-Err-write_line-clause-err g c = λ line makes.
-    inr (line_part c.laws_below.ensures c.args.fields.now line makes (g.P.Pages.told c.args.pages.now) c.args.name.now (g.W.Sink.taken c.args.sink.now) _ _ c.in-Ok.ensures.ok c.in-Err-write_line.ensures.err)
+    inr (line_part c.laws_below.ensures (known c.args.tests.now) c.args.asked line makes (g.P.Pages.told c.args.pages.now) c.args.name.now (g.W.Sink.taken c.args.sink.now) _ _ c.in-Ok.ensures.ok c.in-Err-write_line.ensures.err)
 
 pub returns-in-Ok-write_line-clause-counts : goal.returns-in-Ok-write_line-clause-counts
 returns-in-Ok-write_line-clause-counts g c =

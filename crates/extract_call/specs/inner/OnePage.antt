@@ -1,14 +1,16 @@
--- For the contracts of private functions alone: one page of a run.
-use Rattle.std.specs.Prelude.{◌≡◌, ◌⊎◌, ℕ, Bool, true, List, Option, Some, IfSome, Result, Ok, Err}
+-- One page of a run.
+use Rattle.std.specs.Prelude.{◌≡◌, ◌≢◌, ◌≤◌, ◌⊎◌, ℕ, Bool, true, List, Option, Some, IfSome, Result, Ok, Err}
 use Rattle.text_base.specs.declared.reasons.PageFault.{PageFault}
 use Rattle.doc_model.specs.Document.{Document}
 use Rattle.html_reader.specs.Pages.{BuildsPage, IsPageFault}
 use Rattle.json_lines.specs.Pages.{refused_text}
+use Rattle.io_edges.specs.Counts.{Rose}
 use Rattle.io_edges.specs.Pages.{page}
 use Rattle.io_edges.specs.Sink.{grown, TakesPart}
 use Rattle.extract_call.specs.Answers.{Answer, line_bytes}
+use Rattle.extract_call.specs.Runs.{PagesAt, SinkAt}
 use Rattle.extract_call.specs.declared.status.Status.{Status}
-use Rattle.extract_call.specs.declared.status.Status.TheVariants.{Done}
+use Rattle.extract_call.specs.declared.status.Status.TheVariants.{Done, ReadFault, WriteFault}
 
 -- the text has a fault, and the line has it
 pub record IsFaultLine (name text : List ℕ) (a : Answer) : Type 0 where
@@ -38,3 +40,12 @@ TakesLinePart line told name taken taken' = IfSome told (λ pages. (bytes : List
 abbrev pub status_of : {A : Type 0} → Result A Status → Status
 status_of (Ok x) = Done
 status_of (Err status) = status
+
+-- what the counts say of how one page of a run ended
+pub record Counted {P : Type 0} (pages pages' : PagesAt P) (sink sink' : SinkAt) (status : Status) : Type 0 where
+  pub told : pages'.told ≡ pages.told
+  pub write_fault : status ≡ WriteFault → Rose sink.faults sink'.faults
+  pub page_faults : pages.faults ≤ pages'.faults
+  pub sink_faults : sink.faults ≤ sink'.faults
+  pub pages_uncounted : status ≢ ReadFault → pages'.faults ≡ pages.faults
+  pub sink_uncounted : status ≢ WriteFault → sink'.faults ≡ sink.faults
