@@ -1,12 +1,14 @@
 //! The values of fields, on small documents.
-ghost use Rattle.query_script.specs.Ordered.{IsOrdered};
+ghost use Rattle.std.specs.Prelude.{[]};
+ghost use Rattle.query_script.specs.Ordered.{IsOrdered, KeepsStored};
 
 use css_selectors::Dialect;
 use doc_model::{Axes, Plain};
-use query_chain::{prepare, run_field, run_ready_at};
+use query_chain::{prepare_with, run_field, run_ready_at};
 use query_script::{Field, FieldValue, parse_script};
 use std::alloc::Global;
 use std::test::Fail;
+use test_registry::Tests;
 use text_base::{NoMemory, Txt};
 use worked_trees::{Step, tree_of};
 
@@ -151,15 +153,17 @@ fn values_of_one<S: Axes>(
     field: &Field,
     out: &mut String,
 ) -> Result<(), NoMemory>
-    requires { IsOrdered field.now }
+    requires ordered { IsOrdered field.now }
+    requires stored { KeepsStored [] field.now }
 {
-    let ready = prepare(alloc, field)?;
-    shown(&run_ready_at(alloc, first, &ready, 0)?, out)?;
-    shown(&run_ready_at(alloc, second, &ready, 0)?, out)?;
+    let tests = Tests::new(alloc);
+    let ready = prepare_with(alloc, field, &tests)?;
+    shown(&run_ready_at(alloc, first, &ready, 0, &tests)?, out)?;
+    shown(&run_ready_at(alloc, second, &ready, 0, &tests)?, out)?;
     if second.len() <= 2 {
         return Err(NoMemory);
     }
-    shown(&run_ready_at(alloc, second, &ready, 2)?, out)
+    shown(&run_ready_at(alloc, second, &ready, 2, &tests)?, out)
 }
 
 #[test]

@@ -29,6 +29,10 @@ fn shown(alloc: Global, script: &Script) -> Result<String, Fail> {
                             out.push_str("|match ")?;
                             out.push_str(pattern.as_str())?;
                         }
+                        ChainStep::Keep(_, text) => {
+                            out.push_str("|keep ")?;
+                            out.push_str(text.as_str())?;
+                        }
                     }
                 }
                 match take {

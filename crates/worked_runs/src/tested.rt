@@ -38,7 +38,7 @@ impl Pages for Noting {
 }
 
 /// The words.
-fn words_of(alloc: Global, texts: &[&str]) -> Result<Vec<String>, NoMemory> {
+pub fn words_of(alloc: Global, texts: &[&str]) -> Result<Vec<String>, NoMemory> {
     let mut words = Vec::new(alloc);
     for text in texts {
         words.push(String::from_str(alloc, text)?)?;
