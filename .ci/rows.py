@@ -2,6 +2,7 @@
 
   Dialect, Selector, XPath, Specificity      the line of `css`
   Selector, Refusal, Why                     the refusal of `css html`
+  Page, Written by `clean`                   what `clean` writes, without its last line feed, or the page's refusal `at` its place
   Page, Field, Gives                         the value of the field on the page, or its refusal, or the page's refusal `at` its place
   Page, Field, `extract` gives, parsel gives the same, and beside it what parsel gives, where python3 has it
   Reason, Where, For example, ..             the page after `For example`, refused so `at` its place
@@ -19,7 +20,7 @@ import tempfile
 # Which tables a document has, by the first cells of their heads, so that none goes unseen.
 HAS = {
     "docs/SELECTORS.md": (("Dialect", "Selector", "XPath"), ("Selector", "Refusal")),
-    "docs/HTML_PROFILE.md": (("Open", "Ends before"), ("Reason", "Where", "For example"), ("Page", "Field", "Gives")),
+    "docs/HTML_PROFILE.md": (("Open", "Ends before"), ("Reason", "Where", "For example"), ("Page", "Field", "Gives"), ("Page", "Written by clean")),
     "docs/SCRIPTS.md": (("Reason", "The XPath", "For example"),),
     "docs/FROM_PARSEL.md": (("Page", "Field", "extract gives", "parsel gives"),),
 }
@@ -128,6 +129,18 @@ def row_of_page(program, room, cells):
     return wanted(cells[2]), on_page(program, room, code(cells[0]), code(cells[1]))
 
 
+def row_of_clean(program, room, cells):
+    with open(f"{room}/page", "wb") as it:
+        it.write(page_of(code(cells[0])))
+    ran = subprocess.run([program, "clean", f"{room}/page"], stdout=subprocess.PIPE)
+    said = ran.stdout.decode("utf-8")
+    if ran.returncode == 1:
+        line = json.loads(said)
+        said = f"{line['refused']} at {line['at']}\n"
+    want = code(cells[1])
+    return want.replace("\\n", "\n") + cells[1].rpartition("`")[2] + "\n", said
+
+
 def row_of_both(program, room, cells):
     ours = (wanted(cells[2]), on_page(program, room, code(cells[0]), code(cells[1])))
     theirs = by_parsel(code(cells[0]), code(cells[1]))
@@ -155,6 +168,7 @@ KINDS = {
     ("Dialect", "Selector", "XPath", "Specificity"): row_of_css,
     ("Selector", "Refusal", "Why"): row_refused,
     ("Page", "Field", "Gives"): row_of_page,
+    ("Page", "Written by clean"): row_of_clean,
     ("Page", "Field", "extract gives", "parsel gives"): row_of_both,
     ("Reason", "Where", "For example"): row_of_reason,
     ("Reason", "The XPath", "For example"): row_of_xpath,
