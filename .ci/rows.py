@@ -21,7 +21,7 @@ import tempfile
 HAS = {
     "docs/SELECTORS.md": (("Dialect", "Selector", "XPath"), ("Selector", "Refusal")),
     "docs/HTML_PROFILE.md": (("Open", "Ends before"), ("Reason", "Where", "For example"), ("Page", "Field", "Gives"), ("Page", "Written by clean")),
-    "docs/SCRIPTS.md": (("Reason", "The XPath", "For example"),),
+    "docs/SCRIPTS.md": (("Reason", "The XPath", "For example"), ("Page", "Field", "Gives")),
     "docs/FROM_PARSEL.md": (("Page", "Field", "extract gives", "parsel gives"),),
 }
 
