@@ -24,8 +24,8 @@ use Rattle.query_script.specs.declared.steps.RawStep.{RawStep}
 use Rattle.query_script.specs.declared.steps.RawStep.TheVariants as raw
 use Rattle.query_script.specs.Cuts.{is_point, ends_field, pieces, fields_of}
 use Rattle.query_script.specs.Names.{is_colon, is_named, is_name, label, after_colon}
-use Rattle.query_script.specs.Selectors.{IsSelectorText}
-use Rattle.query_script.specs.Steps.{doubled, IsString, IsCall, IsStepText, AreStepTexts, parts, end_text, IsChainText}
+use Rattle.query_script.specs.Selectors.{IsFieldSelector, IsSelectorText}
+use Rattle.query_script.specs.Steps.{doubled, IsString, IsCall, IsStepText, AreStepTexts, parts, AreStepsText, end_text, IsChainText}
 use Rattle.query_script.specs.Queries.{IsCssStep, IsKept, AreKept}
 use Rattle.query_script.specs.Ordered.{IsInOrder, AreOrderedOver, IsOrderedChainOver, IsOrderedOver}
 use Rattle.query_script.specs.Fields.{IsChain, IsUnnamedField, IsNamedField, IsFieldOver, AreFields, IsScriptOver}
@@ -51,7 +51,7 @@ call_utf8 word text value h utf8 =
     string_utf8 h.inside value h.string (utf8_before h.inside 41 [] (omega arith) rest)
 
 -- the text of the step's selector is UTF-8
-abbrev StepUtf8 : RawStep → Type 0
+abbrev pub StepUtf8 : RawStep → Type 0
 StepUtf8 (raw.Css text) = IsUtf8 (encode_utf8_all text)
 StepUtf8 (raw.XPath text) = Unit {0}
 StepUtf8 (raw.Re text) = Unit {0}
@@ -75,10 +75,15 @@ point_ascii q c h = grind (arith, nat_tests)
 field_ascii : (q c : ℕ) → ((q == 0) && ends_field c) ≡ true → c < 128
 field_ascii q c h = grind (arith, nat_tests)
 
+parts_utf8 : (text : List ℕ) → IsUtf8 text → AreUtf8 (parts text)
+parts_utf8 text utf8 = all_trimmed (pieces is_point 0 text) (pieces_utf8 is_point point_ascii text utf8)
+
 chain_utf8 : (text : List ℕ) (steps : List RawStep) (take : Take) → IsChainText text steps take → IsUtf8 text → AllByRecursion StepUtf8 steps
-chain_utf8 text steps take h utf8 =
-    let all : AreUtf8 (parts text) = all_trimmed (pieces is_point 0 text) (pieces_utf8 is_point point_ascii text utf8) in
-    steps_utf8 h.front steps h.are (front_of h.front (end_text take ∷ []) (subst AreUtf8 h.cut all))
+chain_utf8 text steps take h utf8 = steps_utf8 h.front steps h.are (front_of h.front (end_text take ∷ []) (subst AreUtf8 h.cut (parts_utf8 text utf8)))
+
+-- of a text that is steps alone
+pub cut_utf8 : (text : List ℕ) (steps : List RawStep) → AreStepsText text steps → IsUtf8 text → AllByRecursion StepUtf8 steps
+cut_utf8 text steps h utf8 = steps_utf8 (parts text) steps h (parts_utf8 text utf8)
 
 -- ---- what stands after the colon of a field
 
@@ -95,19 +100,25 @@ within text h = elim (cases_lt (position_or_len is_colon text) (length text)) [
 colon_ascii : (c : ℕ) → is_colon c ≡ true → c < 128
 colon_ascii c h = grind (arith, nat_tests)
 
-rest_utf8 : (piece : List ℕ) → is_named piece ≡ true → IsUtf8 piece → IsUtf8 (after_colon piece)
+pub rest_utf8 : (piece : List ℕ) → is_named piece ≡ true → IsUtf8 piece → IsUtf8 (after_colon piece)
 rest_utf8 piece named utf8 =
     let l = within piece (both (list_any is_colon piece) (is_name (label piece)) named).0 in
     let c = get_or piece (position_or_len is_colon piece) 0 in
     utf8_after (before_first is_colon piece) c (after_first is_colon piece) (colon_ascii c (passes_at_first is_colon piece 0 l)) (subst IsUtf8 (split_at_first is_colon piece 0 l) utf8)
 
--- the selectors of a UTF-8 script
+-- the selectors of a piece that is UTF-8
+pub field_selector_utf8 : (piece text : List ℕ) → IsUtf8 piece → IsFieldSelector piece text → IsUtf8 text
+field_selector_utf8 piece text utf8 h =
+    let each : AllByRecursion StepUtf8 h.steps = chain_utf8 (after_colon piece) h.steps h.take h.written (rest_utf8 piece h.named utf8) in
+    subst IsUtf8 (sym h.is) (All-contains StepUtf8 h.steps (raw.Css h.value) (All-from_recursion StepUtf8 h.steps each) h.step)
+
+-- and of a script
+pub fields_utf8 : (script : List ℕ) → IsUtf8 script → AreUtf8 (fields_of script)
+fields_utf8 script utf8 = written_utf8 (pieces ends_field 0 script) (pieces_utf8 ends_field field_ascii script utf8)
+
 pub selector_utf8 : (script text : List ℕ) → IsUtf8 script → IsSelectorText script text → IsUtf8 text
 selector_utf8 script text utf8 h =
-    let all : AreUtf8 (fields_of script) = written_utf8 (pieces ends_field 0 script) (pieces_utf8 ends_field field_ascii script utf8) in
-    let piece : IsUtf8 h.piece = All-contains IsUtf8 (fields_of script) h.piece (All-from_recursion IsUtf8 (fields_of script) all) h.field in
-    let each : AllByRecursion StepUtf8 h.steps = chain_utf8 (after_colon h.piece) h.steps h.take h.written (rest_utf8 h.piece h.named piece) in
-    subst IsUtf8 (sym h.is) (All-contains StepUtf8 h.steps (raw.Css h.value) (All-from_recursion StepUtf8 h.steps each) h.step)
+    field_selector_utf8 h.piece text (All-contains IsUtf8 (fields_of script) h.piece (All-from_recursion IsUtf8 (fields_of script) (fields_utf8 script utf8)) h.field) h.of
 
 -- ---- steps
 
@@ -121,7 +132,7 @@ module _ (tests : Known) (d : Dialect) where
       let R : ChainStep → Type 0 = λ x. IsInOrder tests nodes x after in
       subst R (sym h.is) (subst Q (sym h.shape) (subst P (sym n) there))
 
-  step_in_order : (nodes after : Bool) (r : RawStep) (s : ChainStep) → StepUtf8 r → IsKept tests d nodes r s after → IsInOrder tests nodes s after
+  pub step_in_order : (nodes after : Bool) (r : RawStep) (s : ChainStep) → StepUtf8 r → IsKept tests d nodes r s after → IsInOrder tests nodes s after
   step_in_order nodes after (raw.Css text) s utf8 h = css_in_order nodes after text s utf8 h.0 h.1
   step_in_order nodes after (raw.XPath text) s utf8 h =
       let R : ChainStep → Type 0 = λ x. IsInOrder tests nodes x after in
@@ -141,18 +152,18 @@ module _ (tests : Known) (d : Dialect) where
   chain_in_order text (chain.Steps kept take) utf8 h = steps_in_order true h.steps kept (chain_utf8 text h.steps take h.written utf8) h.keeps
   chain_in_order text (chain.Refused why) utf8 h = tt
 
-  field_in_order : (piece : List ℕ) (field : Field) → IsUtf8 piece → IsFieldOver tests d piece field → IsOrderedOver tests field
+  pub field_in_order : (piece : List ℕ) (field : Field) → IsUtf8 piece → IsFieldOver tests d piece field → IsOrderedOver tests field
   field_in_order piece field utf8 h = by_name h.reads
     where
       by_name : IsUnnamedField piece field ⊎ IsNamedField tests d piece field → IsOrderedOver tests field
       by_name (inl none) = let P : Chain → Type 0 = λ c. IsOrderedChainOver tests c in subst P (sym none.is) tt
       by_name (inr some) = chain_in_order (after_colon piece) field.chain (rest_utf8 piece some.named utf8) some.is
 
-  fields_in_order : (pieces : List (List ℕ)) (fields : List Field) → AreUtf8 pieces → AreFields tests d pieces fields → AllByRecursion (IsOrderedOver tests) fields
+  pub fields_in_order : (pieces : List (List ℕ)) (fields : List Field) → AreUtf8 pieces → AreFields tests d pieces fields → AllByRecursion (IsOrderedOver tests) fields
   fields_in_order [] [] utf8 h = tt
   fields_in_order [] (f ∷ fields) utf8 h = absurd h
   fields_in_order (p ∷ pieces) [] utf8 h = absurd h
   fields_in_order (p ∷ pieces) (f ∷ fields) utf8 h = (field_in_order p f utf8.0 h.0, fields_in_order pieces fields utf8.1 h.1)
 
   pub script_in_order : (text : List ℕ) (fields : List Field) → IsUtf8 text → IsScriptOver tests d text fields → AllByRecursion (IsOrderedOver tests) fields
-  script_in_order text fields utf8 h = fields_in_order (fields_of text) fields (written_utf8 (pieces ends_field 0 text) (pieces_utf8 ends_field field_ascii text utf8)) h.are
+  script_in_order text fields utf8 h = fields_in_order (fields_of text) fields (fields_utf8 text utf8) h.are

@@ -13,7 +13,7 @@ use Rattle.query_script.specs.declared.script.Take.{Take}
 use Rattle.query_script.specs.declared.steps.RawStep.{RawStep}
 use Rattle.query_script.specs.Fields.{IsField, IsFieldOver, IsFieldReason, IsScriptOver, IsScriptFault}
 use Rattle.query_script.specs.Ordered.{IsOrderedOver, KeepsStored}
-use Rattle.query_script.specs.Selectors.{IsSelectorText}
+use Rattle.query_script.specs.Selectors.{IsFieldSelector, IsSelectorText}
 use Rattle.query_script.specs.Steps.{AreStepsText}
 
 -- in a dialect, and where these tests are stored, a text reads as one list of fields at most
@@ -52,6 +52,10 @@ QueriesRun = (tests : Known) (d : Dialect) (text : List ℕ) (fields : List Fiel
 -- the selectors of a script that is UTF-8 are UTF-8
 abbrev pub SelectorsAreTexts : Type 0
 SelectorsAreTexts = (script text : List ℕ) → IsUtf8 script → IsSelectorText script text → IsUtf8 text
+
+-- and so are those of one piece of it
+abbrev pub FieldSelectorsAreTexts : Type 0
+FieldSelectorsAreTexts = (piece text : List ℕ) → IsUtf8 piece → IsFieldSelector piece text → IsUtf8 text
 
 -- the tests that a script keeps items by are stored
 abbrev pub TestsStored : Type 0

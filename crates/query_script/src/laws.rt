@@ -1,5 +1,5 @@
 //! Laws of the definitions that the contracts cite.
-ghost use Rattle.query_script.specs.Laws.{HasFieldReason, HasOneCut, HasOneFault, HasOneReading, IsReadOrRefused, HasReading, QueriesRun, ReadsMore, SelectorsAreTexts, TestsStored};
+ghost use Rattle.query_script.specs.Laws.{FieldSelectorsAreTexts, HasFieldReason, HasOneCut, HasOneFault, HasOneReading, IsReadOrRefused, HasReading, QueriesRun, ReadsMore, SelectorsAreTexts, TestsStored};
 
 /// Where tests are stored, each text reads as one list of fields or is refused as a whole, for one
 /// reason and not both.
@@ -35,7 +35,8 @@ pub fn queries_run()
     ensures stored { TestsStored }
 {}
 
-/// The selectors of a script that is UTF-8 are UTF-8.
+/// The selectors of a script that is UTF-8 are UTF-8, and so are those of a piece that is.
 pub fn selectors_are_texts()
-    ensures { SelectorsAreTexts }
+    ensures of_script { SelectorsAreTexts }
+    ensures of_field { FieldSelectorsAreTexts }
 {}
