@@ -40,14 +40,14 @@ module _ (tests : Known) (d : Dialect) where
   chain_stored text (chain.Steps kept take) h = steps_stored true h.steps kept h.keeps
   chain_stored text (chain.Refused why) h = tt
 
-  field_stored : (piece : List ℕ) (field : Field) → IsFieldOver tests d piece field → KeepsStored tests field
+  pub field_stored : (piece : List ℕ) (field : Field) → IsFieldOver tests d piece field → KeepsStored tests field
   field_stored piece field h = by_name h.reads
     where
       by_name : IsUnnamedField piece field ⊎ IsNamedField tests d piece field → KeepsStored tests field
       by_name (inl none) = let P : Chain → Type 0 = λ c. IsStoredChain tests c in subst P (sym none.is) tt
       by_name (inr some) = chain_stored (after_colon piece) field.chain some.is
 
-  fields_stored : (pieces : List (List ℕ)) (fields : List Field) → AreFields tests d pieces fields → AllByRecursion (KeepsStored tests) fields
+  pub fields_stored : (pieces : List (List ℕ)) (fields : List Field) → AreFields tests d pieces fields → AllByRecursion (KeepsStored tests) fields
   fields_stored [] [] h = tt
   fields_stored [] (f ∷ fields) h = absurd h
   fields_stored (p ∷ pieces) [] h = absurd h

@@ -37,15 +37,15 @@ module _ (xs : Bytes) (c : ℕ) (ys : Bytes) (ascii : c < 128) (utf8 : IsUtf8 (x
 -- ---- cut
 
 -- what is put in front of the first piece makes it UTF-8, and the others are
-abbrev FirstUtf8 : Bytes → List Bytes → Type 0
+abbrev pub FirstUtf8 : Bytes → List Bytes → Type 0
 FirstUtf8 u [] = IsUtf8 u
 FirstUtf8 u (p ∷ ps) = IsUtf8 (u ++ p) × AreUtf8 ps
 
-all_utf8 : (ps : List Bytes) → FirstUtf8 [] ps → AreUtf8 ps
+pub all_utf8 : (ps : List Bytes) → FirstUtf8 [] ps → AreUtf8 ps
 all_utf8 [] h = tt
 all_utf8 (p ∷ ps) h = h
 
-one_onto : (u : Bytes) (c : ℕ) (ps : List Bytes) → FirstUtf8 (u ++ c ∷ []) ps → FirstUtf8 u (onto_first c ps)
+pub one_onto : (u : Bytes) (c : ℕ) (ps : List Bytes) → FirstUtf8 (u ++ c ∷ []) ps → FirstUtf8 u (onto_first c ps)
 one_onto u c [] h = (h, tt)
 one_onto u c (p ∷ ps) h = (subst IsUtf8 (append_assoc u (c ∷ []) p) h.0, h.1)
 

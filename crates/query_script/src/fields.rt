@@ -62,8 +62,9 @@ pub fn parse_field_with(
     }
 }
 
-/// The fields that the pieces are, in their order.
-pub(crate) fn fields(
+/// The fields that the pieces are where these tests are stored, in their order, each as
+/// `parse_field_with` reads it.
+pub fn parse_fields_with(
     alloc: Global,
     dialect: Dialect,
     pieces: &[&str],

@@ -15,7 +15,7 @@ mod strings;
 
 pub use chains::cut_steps;
 pub use cuts::{field_pieces, quote_after, trimmed, written};
-pub use fields::parse_field_with;
+pub use fields::{parse_field_with, parse_fields_with};
 pub use laws::{
     one_cut, queries_run, read_or_refused, reads_more, reasons_of_fields, selectors_are_texts,
 };

@@ -5,7 +5,7 @@ ghost use Rattle.query_script.specs.Fields.{IsScript, IsScriptOver, IsUnread};
 ghost use Rattle.query_script.specs.Ordered.{IsOrdered, IsOrderedOver, KeepsStored};
 
 use crate::cuts::field_pieces;
-use crate::fields::fields;
+use crate::fields::parse_fields_with;
 use crate::script::Script;
 use css_selectors::Dialect;
 use std::alloc::Global;
@@ -45,7 +45,7 @@ pub fn parse_script_with(
     if pieces.len() > MOST_FIELDS {
         return Err(ScriptFault::Fields);
     }
-    match fields(alloc, dialect, pieces.as_slice(), tests) {
+    match parse_fields_with(alloc, dialect, pieces.as_slice(), tests) {
         Ok(fields) => Ok(Script {
             fields: Seq::from_vec(fields),
         }),

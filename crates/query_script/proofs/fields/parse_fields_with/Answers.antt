@@ -1,7 +1,7 @@
 use Rattle.test_registry.specs.View.{known}
 use Rattle.query_script.specs.Ordered.{IsOrderedOver, KeepsStored}
 use Rattle.query_script.proofs.FieldLemmas.{fields_more, all_push}
-use Rattle.query_script.proofs.fields.fields.Goals as goal
+use Rattle.query_script.proofs.fields.parse_fields_with.Goals as goal
 
 pub loop-piece-preserved : goal.loop-piece-preserved
 loop-piece-preserved g c =

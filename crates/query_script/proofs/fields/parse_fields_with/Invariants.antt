@@ -3,7 +3,7 @@ use Rattle.std.specs.List.{AllByRecursion}
 use Rattle.test_registry.specs.View.{known}
 use Rattle.query_script.specs.Fields.{AreFields}
 use Rattle.query_script.specs.Ordered.{IsOrderedOver, KeepsStored}
-use Rattle.query_script.proofs.fields.fields.Given as goal
+use Rattle.query_script.proofs.fields.parse_fields_with.Given as goal
 
 abbrev pub invariant-loop-piece : goal.invariant-loop-piece
 invariant-loop-piece g l = record {
