@@ -1,4 +1,4 @@
--- The fields of a body, and the entries of a script, one after the other.
+-- The entries of a script, one after the other, and the names of the fields of a body.
 use Rattle.std.proofs.Common.{◌≡◌, ℕ, zero, suc, ◌+◌, ◌<◌, ◌++◌, Bool, true, false, List, [], ◌∷◌, length, take, drop, get_or, map, refl, sym, ◌∙◌, ap, subst, arith}
 use Rattle.std.specs.Prelude.{IsTrue, ◌↔◌, ◌||◌}
 use Rattle.std.specs.List.{AllByRecursion, list_any}
@@ -11,7 +11,7 @@ use Rattle.std.proofs.lemmas.Slice.Eq.{bytes_eq-Decides}
 use Rattle.test_registry.specs.Names.{Known}
 use Rattle.css_selectors.specs.declared.selector.Dialect.{Dialect}
 use Rattle.query_script.specs.declared.script.Field.{Field}
-use Rattle.query_script.specs.Fields.{IsFieldOver, AreFields}
+use Rattle.query_script.specs.Fields.{AreFields}
 use Rattle.query_script.specs.Names.{name_of}
 use Rattle.page_records.specs.declared.script.Entry.{Entry}
 use Rattle.page_records.specs.Blocks.{Differ, names_of}
@@ -23,12 +23,6 @@ pub all_more : {X : Type 0} (P : X → Type 0) (xs : List X) (x : X) → AllByRe
 all_more P [] x h q = (q, tt)
 all_more P (y ∷ xs) x h q = (h.0, all_more P xs x h.1 q)
 
-fields_snoc : (tests : Known) (d : Dialect) (ps : List (List ℕ)) (p : List ℕ) (fs : List Field) (f : Field) → AreFields tests d ps fs → IsFieldOver tests d p f → AreFields tests d (ps ++ p ∷ []) (fs ++ f ∷ [])
-fields_snoc tests d [] p [] f h is = (is, tt)
-fields_snoc tests d [] p (g ∷ fs) f h is = absurd h
-fields_snoc tests d (q ∷ ps) p [] f h is = absurd h
-fields_snoc tests d (q ∷ ps) p (g ∷ fs) f h is = (h.0, fields_snoc tests d ps p fs f h.1 is)
-
 entries_snoc : (tests : Known) (d : Dialect) (ps : List (List ℕ)) (p : List ℕ) (es : List Entry) (e : Entry) → AreEntries tests d ps es → IsEntry tests d p e → AreEntries tests d (ps ++ p ∷ []) (es ++ e ∷ [])
 entries_snoc tests d [] p [] e h is = (is, tt)
 entries_snoc tests d [] p (g ∷ es) e h is = absurd h
@@ -38,9 +32,6 @@ entries_snoc tests d (q ∷ ps) p (g ∷ es) e h is = (h.0, entries_snoc tests d
 module _ {A : Type 0} (read : A → List ℕ) (tests : Known) (d : Dialect) (all : List A) (i : ℕ) (x : A) (w : i < length all) where
   one_more : map read (take i all) ++ read (get_or all i x) ∷ [] ≡ map read (take (i + 1) all)
   one_more = sym (ap (map read) (take_more all i x w) ∙ map-append read (take i all) (get_or all i x ∷ []))
-
-  pub fields_more : (fs : List Field) (f : Field) → AreFields tests d (map read (take i all)) fs → IsFieldOver tests d (read (get_or all i x)) f → AreFields tests d (map read (take (i + 1) all)) (fs ++ f ∷ [])
-  fields_more fs f h is = let P : List (List ℕ) → Type 0 = λ ps. AreFields tests d ps (fs ++ f ∷ []) in subst P one_more (fields_snoc tests d (map read (take i all)) (read (get_or all i x)) fs f h is)
 
   pub entries_more : (es : List Entry) (e : Entry) → AreEntries tests d (map read (take i all)) es → IsEntry tests d (read (get_or all i x)) e → AreEntries tests d (map read (take (i + 1) all)) (es ++ e ∷ [])
   entries_more es e h is = let P : List (List ℕ) → Type 0 = λ ps. AreEntries tests d ps (es ++ e ∷ []) in subst P one_more (entries_snoc tests d (map read (take i all)) (read (get_or all i x)) es e h is)

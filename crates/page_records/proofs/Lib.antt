@@ -2,12 +2,16 @@ pub mod BodyLemmas
 pub mod ContentLemmas
 pub mod CutLemmas
 pub mod EntryLemmas
+pub mod EntryOrder
+pub mod EntryTexts
+pub mod EntryValues
 pub mod FieldTasks
 pub mod LookLemmas
 pub mod Members
 pub mod NameLemmas
 pub mod OneReading
 pub mod OneSteps
+pub mod PlainEntries
 pub mod PlainScripts
 pub mod RecordLines
 pub mod RowLemmas

@@ -12,8 +12,9 @@ use Rattle.page_records.specs.declared.script.Block.{Block}
 use Rattle.page_records.specs.declared.script.Entry.{Entry}
 use Rattle.page_records.specs.declared.script.Entry.TheVariants as entry
 use Rattle.page_records.specs.Blocks.{Differ, IsEmpty, IsContent, IsUnnamedBlock, IsNamedBlock}
+use Rattle.page_records.specs.Braces.{entries_of}
 use Rattle.page_records.specs.Lines.{HasNames}
-use Rattle.page_records.specs.Scripts.{IsEntry, AreEntries}
+use Rattle.page_records.specs.Scripts.{IsEntry, AreEntries, IsRecordScript}
 use Rattle.page_records.proofs.BodyLemmas.{same_names, none_differ}
 
 empty_differ : (b : Block) → IsEmpty b → HasNames (entry.Each b)
@@ -36,3 +37,6 @@ all_differ tests d [] [] h = tt
 all_differ tests d [] (e ∷ entries) h = absurd h
 all_differ tests d (p ∷ pieces) [] h = absurd h
 all_differ tests d (p ∷ pieces) (e ∷ entries) h = (entry_differs tests d p e h.0, all_differ tests d pieces entries h.1)
+
+pub script_differs : (tests : Known) (d : Dialect) (text : List ℕ) (entries : List Entry) → IsRecordScript tests d text entries → AllByRecursion HasNames entries
+script_differs tests d text entries h = all_differ tests d (entries_of text) entries h.are

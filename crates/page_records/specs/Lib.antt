@@ -5,4 +5,5 @@ pub mod Lines
 pub mod Ordered
 pub mod Records
 pub mod Scripts
+pub mod Selectors
 pub mod inner

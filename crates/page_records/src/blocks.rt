@@ -9,13 +9,15 @@ ghost use Rattle.page_records.specs.Blocks.{IsBlockText, IsContent, IsBlock};
 ghost use Rattle.page_records.specs.Ordered.{IsRowQuery, IsOrderedEntry, IsStoredEntry};
 ghost use Rattle.page_records.specs.inner.Contents.{IsWhole, IsRefusedAs};
 
-use crate::bodies::{body_fields, differ};
+use crate::bodies::differ;
 use crate::braces::{Brace, split_outside};
 use crate::rows::{Rows, row_steps};
 use crate::script::Block;
 use crate::words::last_point;
 use css_selectors::Dialect;
-use query_script::{ChainStep, Reason, cut_steps, field_pieces, name_and_rest, trimmed};
+use query_script::{
+    ChainStep, Reason, cut_steps, field_pieces, name_and_rest, parse_fields_with, trimmed,
+};
 use std::alloc::Global;
 use test_registry::Tests;
 use text_base::{NoMemory, Seq, Txt};
@@ -84,7 +86,7 @@ fn whole(
     ensures ordered { IfOk result (λ b. IsOrderedEntry (known tests.now) (entry.Each b)) }
     ensures stored { IfOk result (λ b. IsStoredEntry (known tests.now) (entry.Each b)) }
 {
-    let fields = body_fields(alloc, dialect, pieces, tests)?;
+    let fields = parse_fields_with(alloc, dialect, pieces, tests)?;
     if !differ(fields.as_slice()) {
         return refused(alloc, name, Reason::Twice);
     }

@@ -1,35 +1,11 @@
-//! The fields of a body.
-ghost use Rattle.std.specs.Prelude.{◌≡◌, true, false, map, IfOk};
-ghost use Rattle.std.specs.List.{AllByRecursion, list_any};
+//! The names of the fields of a body.
+ghost use Rattle.std.specs.Prelude.{◌≡◌, true, false, map};
+ghost use Rattle.std.specs.List.{list_any};
 ghost use Rattle.std.specs.Str.{bytes_eq};
-ghost use Rattle.test_registry.specs.View.{known};
-ghost use Rattle.query_script.specs.Fields.{AreFields};
-ghost use Rattle.query_script.specs.Ordered.{IsOrderedOver, KeepsStored};
 ghost use Rattle.page_records.specs.Blocks.{Differ};
 
-use css_selectors::Dialect;
-use query_script::{Field, parse_field_with};
-use std::alloc::Global;
-use test_registry::Tests;
-use text_base::{NoMemory, Txt};
-
-/// The fields that the pieces are, in their order.
-pub(crate) fn body_fields(
-    alloc: Global,
-    dialect: Dialect,
-    pieces: &[&str],
-    tests: &Tests,
-) -> Result<Vec<Field>, NoMemory>
-    ensures are { IfOk result (λ v. AreFields (known tests.now) dialect (map (λ p. p.now) pieces.now) v.items) }
-    ensures ordered { IfOk result (λ v. AllByRecursion (IsOrderedOver (known tests.now)) v.items) }
-    ensures stored { IfOk result (λ v. AllByRecursion (KeepsStored (known tests.now)) v.items) }
-{
-    let mut all = Vec::new(alloc);
-    for piece in pieces {
-        all.push(parse_field_with(alloc, dialect, piece, tests)?)?;
-    }
-    Ok(all)
-}
+use query_script::Field;
+use text_base::Txt;
 
 /// Whether one of the fields has the name.
 fn has_name(fields: &[Field], name: &Txt) -> bool

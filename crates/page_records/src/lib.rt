@@ -18,7 +18,10 @@ mod stops;
 mod words;
 
 pub use entries::{ReadyEntry, prepare_entry};
-pub use laws::{read_or_refused, reads_as_fields};
+pub use laws::{
+    entries_run, one_entry_value, outcomes_have_forms, plain_entries, read_or_refused,
+    reads_as_fields, selectors_are_texts,
+};
 pub use lines::record_line;
 pub use parsing::parse_records;
 pub use refusals::holds_refusal;

@@ -51,7 +51,7 @@ module _ (tests : Known) where
   same_action (step.Keep kind text) (keep a t) (search q) h k = absurd k
   same_action (step.Keep kind text) (keep a t) (keep b u) h k = ap₂ keep (h.0 ∙ sym k.0) (h.1 ∙ sym k.1)
 
-  same_actions : (steps : List ChainStep) (xs bs : List Action) → AreActions tests steps xs → AreActions tests steps bs → xs ≡ bs
+  pub same_actions : (steps : List ChainStep) (xs bs : List Action) → AreActions tests steps xs → AreActions tests steps bs → xs ≡ bs
   same_actions [] [] [] h k = refl
   same_actions [] [] (b ∷ bs) h k = absurd k
   same_actions [] (a ∷ xs) bs h k = absurd h
@@ -69,7 +69,7 @@ module _ (tests : Known) where
   refused_and_run steps xs h k = let e : true ≡ false = sym h ∙ none_refused steps xs k in cc
 
   -- at most one task
-  one_task : (c : Chain) (t u : Task) → IsChainTask tests c t → IsChainTask tests c u → t ≡ u
+  pub one_task : (c : Chain) (t u : Task) → IsChainTask tests c t → IsChainTask tests c u → t ≡ u
   one_task (chain.Refused why) (refuses v) (refuses w) h k = ap refuses (h ∙ sym k)
   one_task (chain.Refused why) (refuses v) (does ys f) h k = absurd k
   one_task (chain.Refused why) (does xs e) u h k = absurd h
@@ -92,7 +92,7 @@ module _ (tests : Known) where
       let rest = actions_of nodes steps h e in
       (keep kind text ∷ rest.0, ((refl, refl), rest.1))
 
-  a_task : (c : Chain) → IsOrderedChainOver tests c → (t : Task) × IsChainTask tests c t
+  pub a_task : (c : Chain) → IsOrderedChainOver tests c → (t : Task) × IsChainTask tests c t
   a_task (chain.Refused why) h = (refuses why, refl)
   a_task (chain.Steps steps end) h =
       (elim (list_any is_refused steps) as (λ b. list_any is_refused steps ≡ b → (t : Task) × IsChainTask tests (chain.Steps steps end) t) [
