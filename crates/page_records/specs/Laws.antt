@@ -56,11 +56,15 @@ EntriesRun =
 
 -- the tests that a script keeps items by are stored
 abbrev pub EntriesStored : Type 0
-EntriesStored = (tests : Known) (d : Dialect) (text : List ℕ) (entries : List Entry) → IsRecordScript tests d text entries → AllByRecursion (IsStoredEntry tests) entries
+EntriesStored =
+    (tests : Known) (d : Dialect) (text : List ℕ) (entries : List Entry)
+    → IsRecordScript tests d text entries → AllByRecursion (IsStoredEntry tests) entries
 
 -- the names of the fields of each of its blocks differ
 abbrev pub EntriesNamed : Type 0
-EntriesNamed = (tests : Known) (d : Dialect) (text : List ℕ) (entries : List Entry) → IsRecordScript tests d text entries → AllByRecursion HasNames entries
+EntriesNamed =
+    (tests : Known) (d : Dialect) (text : List ℕ) (entries : List Entry)
+    → IsRecordScript tests d text entries → AllByRecursion HasNames entries
 
 -- the selectors of a script that is UTF-8 are UTF-8
 abbrev pub SelectorsAreTexts : Type 0
@@ -70,7 +74,9 @@ SelectorsAreTexts = (script text : List ℕ) → IsUtf8 script → IsSelectorTex
 
 -- an entry has one value at most on a document
 abbrev pub OneEntryValue : Type 0
-OneEntryValue = (tests : Known) (doc : Document) (e : Entry) (v w : EntryValue) → IsEntryValue tests doc e v → IsEntryValue tests doc e w → v ≡ w
+OneEntryValue =
+    (tests : Known) (doc : Document) (e : Entry) (v w : EntryValue)
+    → IsEntryValue tests doc e v → IsEntryValue tests doc e w → v ≡ w
 
 -- and one at least where it can be run
 abbrev pub AnEntryValue : Type 0
@@ -78,13 +84,17 @@ AnEntryValue = (tests : Known) (doc : Document) (e : Entry) → IsOrderedEntry t
 
 -- what its task has as its value is written in the entry's form
 abbrev pub OutcomeHasForm : Type 0
-OutcomeHasForm = (tests : Known) (doc : Document) (e : Entry) (task : EntryTask) → IsEntryTask tests e task → HasForm e (entry_outcome doc task)
+OutcomeHasForm =
+    (tests : Known) (doc : Document) (e : Entry) (task : EntryTask)
+    → IsEntryTask tests e task → HasForm e (entry_outcome doc task)
 
 -- ---- entries that are all fields
 
 -- their line is the line of the fields
 abbrev pub PlainLine : Type 0
-PlainLine = (name : List ℕ) (fields : List Field) (values : List FieldValue) → line_text name (map entry.Plain fields) (map entry_value.Plain values) ≡ page_text name fields values
+PlainLine =
+    (name : List ℕ) (fields : List Field) (values : List FieldValue)
+    → line_text name (map entry.Plain fields) (map entry_value.Plain values) ≡ page_text name fields values
 
 -- it holds a refusal where one of the fields' values is one
 abbrev pub PlainRefusal : Type 0
@@ -92,4 +102,6 @@ PlainRefusal = (values : List FieldValue) → list_any holds_refusal (map entry_
 
 -- and each has the value of its field
 abbrev pub PlainValue : Type 0
-PlainValue = (tests : Known) (doc : Document) (f : Field) (w : FieldValue) → IsValueOver tests doc f w → IsEntryValue tests doc (entry.Plain f) (entry_value.Plain w)
+PlainValue =
+    (tests : Known) (doc : Document) (f : Field) (w : FieldValue)
+    → IsValueOver tests doc f w → IsEntryValue tests doc (entry.Plain f) (entry_value.Plain w)

@@ -32,7 +32,8 @@ pub record IsBodySelector (piece text : List ℕ) : Type 0 where
 -- it is that of a css step of the field or block that the piece is
 abbrev pub IsEntrySelector : List ℕ → List ℕ → Type 0
 IsEntrySelector piece text =
-    ((is_block piece ≡ false) × IsFieldSelector piece text) ⊎ ((is_block piece ≡ true) × (IsStepSelector piece text ⊎ IsBodySelector piece text))
+    ((is_block piece ≡ false) × IsFieldSelector piece text)
+    ⊎ ((is_block piece ≡ true) × (IsStepSelector piece text ⊎ IsBodySelector piece text))
 
 -- and of a field or block of the script
 pub record IsSelectorText (script text : List ℕ) : Type 0 where

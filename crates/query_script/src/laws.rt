@@ -1,5 +1,6 @@
 //! Laws of the definitions that the contracts cite.
-ghost use Rattle.query_script.specs.Laws.{FieldSelectorsAreTexts, HasFieldReason, HasOneCut, HasOneFault, HasOneReading, IsReadOrRefused, HasReading, QueriesRun, ReadsMore, SelectorsAreTexts, TestsStored};
+ghost use Rattle.query_script.specs.Laws.{FieldSelectorsAreTexts, SelectorsAreTexts};
+ghost use Rattle.query_script.specs.Laws.{HasFieldReason, HasOneCut, HasOneFault, HasOneReading, IsReadOrRefused, HasReading, QueriesRun, ReadsMore, TestsStored};
 
 /// Where tests are stored, each text reads as one list of fields or is refused as a whole, for one
 /// reason and not both.
