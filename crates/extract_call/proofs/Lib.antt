@@ -10,6 +10,7 @@ pub mod PageAnswers
 pub mod PageBytes
 pub mod PageExists
 pub mod PageReadings
+pub mod PlainLines
 pub mod PlanExists
 pub mod Plans
 pub mod Readings

@@ -1,4 +1,4 @@
--- Each page has a line by ordered fields, and one that is its canonical markup.
+-- Each page has a line by entries that can be run, and one that is its canonical markup.
 use Rattle.std.proofs.Common.{◌≡◌, refl, ℕ, ◌<◌, ◌≤◌, List, [], ◌∷◌, length, inl, inr, ◌⊎◌}
 use Rattle.std.specs.Prelude.{Result, Ok, Err, true, false, encode_utf8_all}
 use Rattle.std.specs.List.{AllByRecursion, list_any}
@@ -6,16 +6,17 @@ use Rattle.text_base.specs.declared.reasons.PageFault.{PageFault}
 use Rattle.text_base.specs.Decoding.{decoded}
 use Rattle.doc_model.specs.Document.{Document}
 use Rattle.html_reader.specs.PageLaws.{PageAnswer}
-use Rattle.query_script.specs.declared.script.Field.{Field}
-use Rattle.query_script.specs.declared.script.FieldValue.{FieldValue}
 use Rattle.test_registry.specs.Names.{Known}
-use Rattle.query_script.specs.Ordered.{IsOrderedOver}
-use Rattle.query_chain.specs.Chains.{IsValueOver}
-use Rattle.json_lines.specs.Pages.{page_text, refused_text}
+use Rattle.json_lines.specs.Pages.{refused_text}
+use Rattle.page_records.specs.declared.script.Entry.{Entry}
+use Rattle.page_records.specs.declared.script.EntryValue.{EntryValue}
+use Rattle.page_records.specs.Lines.{line_text, holds_refusal}
+use Rattle.page_records.specs.Ordered.{IsOrderedEntry}
+use Rattle.page_records.specs.Records.{IsEntryValue}
 use Rattle.markup_out.specs.Markup.{canonical}
 use Rattle.extract_call.specs.inner.Below.{Below}
 use Rattle.extract_call.specs.Answers.{Answer}
-use Rattle.extract_call.specs.PageLines.{most_page, too_long, AreValues, is_refused, IsPageLine, IsValuesLine, IsMarkupLine, MakesLines}
+use Rattle.extract_call.specs.PageLines.{most_page, too_long, AreValues, IsPageLine, IsValuesLine, IsMarkupLine, MakesLines}
 use Rattle.extract_call.proofs.Readings.{within_or_past}
 
 -- a document shows a line
@@ -57,21 +58,21 @@ module _ (below : Below) where
   pub makes_markup : (line : List ℕ → List ℕ → Answer) × MakesLines IsMarkupLine line
   makes_markup = lines IsMarkupLine some_markup_line
 
-  some_values : (tests : Known) (doc : Document) (fields : List Field) → AllByRecursion (IsOrderedOver tests) fields → (values : List FieldValue) × AreValues tests doc fields values
+  some_values : (tests : Known) (doc : Document) (entries : List Entry) → AllByRecursion (IsOrderedEntry tests) entries → (values : List EntryValue) × AreValues tests doc entries values
   some_values tests doc [] h = ([], tt)
-  some_values tests doc (f ∷ fields) h =
-      let first : (v : FieldValue) × IsValueOver tests doc f v = below.some_value tests doc 0 f h.0 in
-      let rest : (values : List FieldValue) × AreValues tests doc fields values = some_values tests doc fields h.1 in
+  some_values tests doc (e ∷ entries) h =
+      let first : (v : EntryValue) × IsEntryValue tests doc e v = below.some_value tests doc e h.0 in
+      let rest : (values : List EntryValue) × AreValues tests doc entries values = some_values tests doc entries h.1 in
       (first.0 ∷ rest.0, (first.1, rest.1))
 
-  some_values_line : (tests : Known) (fields : List Field) → AllByRecursion (IsOrderedOver tests) fields → ShowsSome (IsValuesLine tests fields)
-  some_values_line tests fields ordered name doc =
-      let values : (vs : List FieldValue) × AreValues tests doc fields vs = some_values tests doc fields ordered in
-      (record { text = page_text name fields values.0; refused = list_any is_refused values.0 }, record { values = values.0; are = values.1; line = refl })
+  some_values_line : (tests : Known) (entries : List Entry) → AllByRecursion (IsOrderedEntry tests) entries → ShowsSome (IsValuesLine tests entries)
+  some_values_line tests entries ordered name doc =
+      let values : (vs : List EntryValue) × AreValues tests doc entries vs = some_values tests doc entries ordered in
+      (record { text = line_text name entries values.0; refused = list_any holds_refusal values.0 }, record { values = values.0; are = values.1; line = refl })
 
-  pub a_page_line : (tests : Known) (fields : List Field) → AllByRecursion (IsOrderedOver tests) fields → (name bytes : List ℕ) → (a : Answer) × IsPageLine (IsValuesLine tests fields) name bytes a
-  a_page_line tests fields ordered = a_line (IsValuesLine tests fields) (some_values_line tests fields ordered)
+  pub a_page_line : (tests : Known) (entries : List Entry) → AllByRecursion (IsOrderedEntry tests) entries → (name bytes : List ℕ) → (a : Answer) × IsPageLine (IsValuesLine tests entries) name bytes a
+  a_page_line tests entries ordered = a_line (IsValuesLine tests entries) (some_values_line tests entries ordered)
 
-  -- and there is what makes the lines of pages by the fields
-  pub makes_lines : (tests : Known) (fields : List Field) → AllByRecursion (IsOrderedOver tests) fields → (line : List ℕ → List ℕ → Answer) × MakesLines (IsValuesLine tests fields) line
-  makes_lines tests fields ordered = lines (IsValuesLine tests fields) (some_values_line tests fields ordered)
+  -- and there is what makes the lines of pages by the entries
+  pub makes_lines : (tests : Known) (entries : List Entry) → AllByRecursion (IsOrderedEntry tests) entries → (line : List ℕ → List ℕ → Answer) × MakesLines (IsValuesLine tests entries) line
+  makes_lines tests entries ordered = lines (IsValuesLine tests entries) (some_values_line tests entries ordered)

@@ -9,9 +9,10 @@ use Rattle.text_base.specs.declared.reasons.PageFault.{PageFault}
 use Rattle.doc_model.specs.Document.{Document}
 use Rattle.html_reader.specs.Pages.{BuildsPage, IsPageFault}
 use Rattle.test_registry.specs.Names.{Known}
-use Rattle.query_script.specs.declared.script.Field.{Field}
-use Rattle.query_script.specs.declared.script.FieldValue.{FieldValue}
-use Rattle.json_lines.specs.Pages.{page_text, refused_text}
+use Rattle.json_lines.specs.Pages.{refused_text}
+use Rattle.page_records.specs.declared.script.Entry.{Entry}
+use Rattle.page_records.specs.declared.script.EntryValue.{EntryValue}
+use Rattle.page_records.specs.Lines.{line_text, holds_refusal}
 use Rattle.extract_call.specs.declared.answers.Line.{Line}
 use Rattle.extract_call.specs.declared.asked.Asked.{Asked}
 use Rattle.extract_call.specs.declared.asked.Asked.TheVariants.{Values, Markup}
@@ -19,7 +20,7 @@ use Rattle.extract_call.specs.Answers.{Answer, answer_of}
 use Rattle.extract_call.specs.inner.Asked.{shown_by}
 use Rattle.extract_call.specs.inner.Below.{Below}
 use Rattle.extract_call.specs.inner.OnePage.{IsTextLine}
-use Rattle.extract_call.specs.PageLines.{most_page, too_long, IsNoTree, IsPageRefused, AreValues, is_refused, IsShownLine, IsValuesLine, IsMarkupLine, IsPageLine, MakesLines}
+use Rattle.extract_call.specs.PageLines.{most_page, too_long, IsNoTree, IsPageRefused, AreValues, IsShownLine, IsValuesLine, IsMarkupLine, IsPageLine, MakesLines}
 
 same_fault : (f g : PageFault) → f.reason ≡ g.reason → f.at ≡ g.at → f ≡ g
 same_fault f g p q = ap₂ (λ r a. record { reason = r; at = a }) p q
@@ -70,17 +71,17 @@ module _ (below : Below) where
       let t : k.text ≡ h.text = (let x = h.decodes in let y = k.decodes in cc) in
       below.page_never_both h.text k.doc f.reason f.at (subst (λ x. BuildsPage x k.doc) t k.builds) h.is
 
-  one_values : (tests : Known) (doc : Document) (fields : List Field) (values other : List FieldValue) → AreValues tests doc fields values → AreValues tests doc fields other → values ≡ other
+  one_values : (tests : Known) (doc : Document) (entries : List Entry) (values other : List EntryValue) → AreValues tests doc entries values → AreValues tests doc entries other → values ≡ other
   one_values tests doc [] [] [] h k = refl
   one_values tests doc [] [] (w ∷ other) h k = absurd k
   one_values tests doc [] (v ∷ values) other h k = absurd h
-  one_values tests doc (f ∷ fields) [] other h k = absurd h
-  one_values tests doc (f ∷ fields) (v ∷ values) [] h k = absurd k
-  one_values tests doc (f ∷ fields) (v ∷ values) (w ∷ other) h k = ap₂ ◌∷◌ (below.one_value tests doc 0 f v w h.0 k.0) (one_values tests doc fields values other h.1 k.1)
+  one_values tests doc (e ∷ entries) [] other h k = absurd h
+  one_values tests doc (e ∷ entries) (v ∷ values) [] h k = absurd k
+  one_values tests doc (e ∷ entries) (v ∷ values) (w ∷ other) h k = ap₂ ◌∷◌ (below.one_value tests doc e v w h.0 k.0) (one_values tests doc entries values other h.1 k.1)
 
-  one_values_line : (tests : Known) (fields : List Field) → ShowsOne (IsValuesLine tests fields)
-  one_values_line tests fields name doc a b h k =
-      h.line ∙ ap (λ vs. record { text = page_text name fields vs; refused = list_any is_refused vs }) (one_values tests doc fields h.values k.values h.are k.are) ∙ sym k.line
+  one_values_line : (tests : Known) (entries : List Entry) → ShowsOne (IsValuesLine tests entries)
+  one_values_line tests entries name doc a b h k =
+      h.line ∙ ap (λ vs. record { text = line_text name entries vs; refused = list_any holds_refusal vs }) (one_values tests doc entries h.values k.values h.are k.are) ∙ sym k.line
 
   shown_lines : (shows : List ℕ → Document → Answer → Type 0) → ShowsOne shows → (name bytes : List ℕ) (a b : Answer) → IsShownLine shows name bytes a → IsShownLine shows name bytes b → a ≡ b
   shown_lines shows one name bytes a b h k =
@@ -95,19 +96,19 @@ module _ (below : Below) where
   line_of_page shows one name bytes a b (inr h) (inl k) = absurd (refused_or_read shows name bytes k.fault a k.cause h)
   line_of_page shows one name bytes a b (inr h) (inr k) = shown_lines shows one name bytes a b h k
 
-  pub one_page_line : (tests : Known) (fields : List Field) (name bytes : List ℕ) (a b : Answer) → IsPageLine (IsValuesLine tests fields) name bytes a → IsPageLine (IsValuesLine tests fields) name bytes b → a ≡ b
-  one_page_line tests fields = line_of_page (IsValuesLine tests fields) (one_values_line tests fields)
+  pub one_page_line : (tests : Known) (entries : List Entry) (name bytes : List ℕ) (a b : Answer) → IsPageLine (IsValuesLine tests entries) name bytes a → IsPageLine (IsValuesLine tests entries) name bytes b → a ≡ b
+  one_page_line tests entries = line_of_page (IsValuesLine tests entries) (one_values_line tests entries)
 
   pub one_asked_line : (tests : Known) (asked : Asked) (name bytes : List ℕ) (a b : Answer) → IsPageLine (shown_by tests asked) name bytes a → IsPageLine (shown_by tests asked) name bytes b → a ≡ b
-  one_asked_line tests (Values fields ready) = one_page_line tests fields.now
+  one_asked_line tests (Values entries ready) = one_page_line tests entries.now
   one_asked_line tests Markup = line_of_page IsMarkupLine one_markup_line
 
   -- what makes the lines of pages by what their documents show is one function
   same_lines : (shows : List ℕ → Document → Answer → Type 0) → ShowsOne shows → (l m : List ℕ → List ℕ → Answer) → MakesLines shows l → MakesLines shows m → l ≡ m
   same_lines shows one l m h k = fun_ext (λ name. fun_ext (λ bytes. line_of_page shows one name bytes (l name bytes) (m name bytes) (h name bytes) (k name bytes)))
 
-  pub same_values_lines : (tests : Known) (fields : List Field) (l m : List ℕ → List ℕ → Answer) → MakesLines (IsValuesLine tests fields) l → MakesLines (IsValuesLine tests fields) m → l ≡ m
-  same_values_lines tests fields = same_lines (IsValuesLine tests fields) (one_values_line tests fields)
+  pub same_values_lines : (tests : Known) (entries : List Entry) (l m : List ℕ → List ℕ → Answer) → MakesLines (IsValuesLine tests entries) l → MakesLines (IsValuesLine tests entries) m → l ≡ m
+  same_values_lines tests entries = same_lines (IsValuesLine tests entries) (one_values_line tests entries)
 
   pub same_markup_lines : (l m : List ℕ → List ℕ → Answer) → MakesLines IsMarkupLine l → MakesLines IsMarkupLine m → l ≡ m
   same_markup_lines = same_lines IsMarkupLine one_markup_line

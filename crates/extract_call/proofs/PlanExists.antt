@@ -1,5 +1,5 @@
 -- Each command whose words are UTF-8 has a plan.
-use Rattle.std.proofs.Common.{refl, ℕ, true, List, [], ◌∷◌, ◌++◌, codes, inl, inr, ◌⊎◌, ◌≡◌, subst}
+use Rattle.std.proofs.Common.{refl, ℕ, true, List, [], ◌∷◌, ◌++◌, map, codes, inl, inr, ◌⊎◌, ◌≡◌, subst}
 use Rattle.std.specs.List.{AllByRecursion}
 use Rattle.std.specs.Str.{IsUtf8}
 use Rattle.text_base.specs.declared.reasons.ScriptFault.{ScriptFault}
@@ -7,9 +7,10 @@ use Rattle.text_base.specs.Reasons.{script_word}
 use Rattle.test_registry.specs.Names.{Known}
 use Rattle.css_selectors.specs.declared.selector.Dialect.{Dialect}
 use Rattle.css_selectors.specs.declared.selector.Dialect.TheVariants.{Html}
-use Rattle.query_script.specs.declared.script.Field.{Field}
-use Rattle.query_script.specs.Fields.{IsScriptOver, IsScriptFault}
 use Rattle.json_lines.specs.Lines.{reason_text}
+use Rattle.page_records.specs.declared.script.Entry.{Entry}
+use Rattle.page_records.specs.declared.script.Entry.TheVariants as entry
+use Rattle.page_records.specs.Scripts.{IsRecordScript, IsRecordFault}
 use Rattle.extract_call.specs.inner.Below.{Below}
 use Rattle.extract_call.specs.Bulk.{bulk_script, bulk_text}
 use Rattle.extract_call.specs.Laws.{SomePlan}
@@ -21,11 +22,11 @@ use Rattle.extract_call.proofs.Plans.{some_line}
 use Rattle.extract_call.proofs.Utf8.{script_word_is, bulk_script_is}
 
 module _ (below : Below) (tests : Known) where
-  run_plan : (d : Dialect) (s : List ℕ) (names : List (List ℕ)) → IsUtf8 s → ((fields : List Field) × IsScriptOver tests d s fields) ⊎ ((fault : ScriptFault) × IsScriptFault s fault)
+  run_plan : (d : Dialect) (s : List ℕ) (names : List (List ℕ)) → IsUtf8 s → ((entries : List Entry) × IsRecordScript tests d s entries) ⊎ ((fault : ScriptFault) × IsRecordFault s fault)
       → (plan : Plan) × IsPlan tests (run d s names) plan
   run_plan d s names utf8 (inl read) =
-      let line = makes_lines below tests read.0 (below.queries_run tests d s read.0 utf8 read.1) in
-      (over line.0 names, (refl, record { fields = read.0; reads = read.1; makes = line.1 }))
+      let line = makes_lines below tests read.0 (below.entries_run tests d s read.0 utf8 read.1) in
+      (over line.0 names, (refl, record { entries = read.0; reads = read.1; makes = line.1 }))
   run_plan d s names utf8 (inr why) =
       (alone (record { text = reason_text (codes "script." ++ script_word why.0); refused = true }), record { why = why.0; cause = why.1; line = refl })
 
@@ -34,8 +35,9 @@ module _ (below : Below) (tests : Known) where
   plan_of words (run d s names) utf8 is = run_plan d s names (script_word_is words d s names utf8 is.0) (below.some_script tests d s)
   plan_of words (bulk n) utf8 is =
       let fields = bulk_reads below tests in
-      let line = a_page_line below tests fields.0 (below.queries_run tests Html bulk_script fields.0 bulk_script_is fields.1) (codes "bulk") (bulk_text n) in
-      (alone line.0, inr (record { fields = fields.0; reads = fields.1; line = line.1 }))
+      let entries : List Entry = map entry.Plain fields.0 in
+      let line = a_page_line below tests entries (below.entries_run tests Html bulk_script entries bulk_script_is fields.1.1) (codes "bulk") (bulk_text n) in
+      (alone line.0, inr (record { entries = entries; reads = fields.1.1; line = line.1 }))
   plan_of words (clean page) utf8 is = let line = makes_markup below in (over line.0 (page ∷ []), (refl, line.1))
 
 pub some_plan : Below → SomePlan

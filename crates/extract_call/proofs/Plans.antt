@@ -13,10 +13,10 @@ use Rattle.css_selectors.specs.declared.selector.Dialect.TheVariants.{Html}
 use Rattle.css_selectors.specs.declared.selector.SelectorList.{SelectorList}
 use Rattle.css_parser.specs.Selecting.{Accepts}
 use Rattle.css_printed.specs.Printed.{printed}
-use Rattle.query_script.specs.declared.script.Field.{Field}
-use Rattle.query_script.specs.Fields.{IsScriptOver, IsScriptFault}
 use Rattle.query_script.specs.Queries.{IsCssFault}
 use Rattle.json_lines.specs.Lines.{css_text, reason_text}
+use Rattle.page_records.specs.declared.script.Entry.{Entry}
+use Rattle.page_records.specs.Scripts.{IsRecordScript, IsRecordFault}
 use Rattle.xpath_lexer.specs.Places.{most_xpath}
 use Rattle.extract_call.specs.declared.answers.Line.{Line}
 use Rattle.extract_call.specs.Answers.{Answer, answer_of}
@@ -31,10 +31,10 @@ use Rattle.extract_call.proofs.PageReadings.{one_page_line, same_values_lines, s
 use Rattle.extract_call.proofs.Readings.{one_or_other, one_reason, some_reading, within_or_past}
 
 -- the line that was made of the bulk page
-pub bulk_line : (tests : Known) (n : ℕ) (fields : List Field) (bytes : List ℕ) (made : Result Line NoMemory) → IsScriptOver tests Html bulk_script fields → bytes ≡ bulk_text n
-    → IfOk made (λ l. IsPageLine (IsValuesLine tests fields) (codes "bulk") bytes (answer_of l)) → IfOk made (λ l. IsBulkLine tests n (answer_of l))
-bulk_line tests n fields bytes made reads same h =
-    IfOk-weaker made _ _ (λ l is. inr (record { fields = fields; reads = reads; line = subst (λ x. IsPageLine (IsValuesLine tests fields) (codes "bulk") x (answer_of l)) same is })) h
+pub bulk_line : (tests : Known) (n : ℕ) (entries : List Entry) (bytes : List ℕ) (made : Result Line NoMemory) → IsRecordScript tests Html bulk_script entries → bytes ≡ bulk_text n
+    → IfOk made (λ l. IsPageLine (IsValuesLine tests entries) (codes "bulk") bytes (answer_of l)) → IfOk made (λ l. IsBulkLine tests n (answer_of l))
+bulk_line tests n entries bytes made reads same h =
+    IfOk-weaker made _ _ (λ l is. inr (record { entries = entries; reads = reads; line = subst (λ x. IsPageLine (IsValuesLine tests entries) (codes "bulk") x (answer_of l)) same is })) h
 
 -- what holds of all that makes the canonical markup of pages holds of the plan
 pub of_clean : (tests : Known) (page : List ℕ) (P : Plan → Type 0) → ((line : List ℕ → List ℕ → Answer) → MakesLines IsMarkupLine line → P (over line (page ∷ [])))
@@ -84,29 +84,29 @@ module _ (below : Below) where
   same_refusal s a b h k =
       h.line ∙ ap (λ why. record { text = reason_text (codes "script." ++ script_word why); refused = true }) (below.one_script_fault s h.why k.why h.cause k.cause) ∙ sym k.line
 
-  -- what is made by the fields of a script is made by whichever fields it reads as
-  makes_for : (tests : Known) (d : Dialect) (s : List ℕ) (fields other : List Field) → IsScriptOver tests d s fields → IsScriptOver tests d s other → (line : List ℕ → List ℕ → Answer)
-      → MakesLines (IsValuesLine tests other) line → MakesLines (IsValuesLine tests fields) line
-  makes_for tests d s fields other h k line makes = subst (λ x. MakesLines (IsValuesLine tests x) line) (below.one_script tests d s other fields k h) makes
+  -- what is made by the entries of a script is made by whichever entries it reads as
+  makes_for : (tests : Known) (d : Dialect) (s : List ℕ) (entries other : List Entry) → IsRecordScript tests d s entries → IsRecordScript tests d s other → (line : List ℕ → List ℕ → Answer)
+      → MakesLines (IsValuesLine tests other) line → MakesLines (IsValuesLine tests entries) line
+  makes_for tests d s entries other h k line makes = subst (λ x. MakesLines (IsValuesLine tests x) line) (below.one_script tests d s other entries k h) makes
 
   one_bulk_line : (tests : Known) (n : ℕ) (a b : Answer) → IsBulkLine tests n a → IsBulkLine tests n b → a ≡ b
   one_bulk_line tests n a b (inl h) (inl k) = same_refusal bulk_script a b h k
-  one_bulk_line tests n a b (inl h) (inr k) = absurd (below.read_or_refused tests Html bulk_script k.fields h.why k.reads h.cause)
-  one_bulk_line tests n a b (inr h) (inl k) = absurd (below.read_or_refused tests Html bulk_script h.fields k.why h.reads k.cause)
+  one_bulk_line tests n a b (inl h) (inr k) = absurd (below.read_or_refused tests Html bulk_script k.entries h.why k.reads h.cause)
+  one_bulk_line tests n a b (inr h) (inl k) = absurd (below.read_or_refused tests Html bulk_script h.entries k.why h.reads k.cause)
   one_bulk_line tests n a b (inr h) (inr k) =
-      let same = below.one_script tests Html bulk_script k.fields h.fields k.reads h.reads in
-      one_page_line below tests h.fields (codes "bulk") (bulk_text n) a b h.line (subst (λ x. IsPageLine (IsValuesLine tests x) (codes "bulk") (bulk_text n) b) same k.line)
+      let same = below.one_script tests Html bulk_script k.entries h.entries k.reads h.reads in
+      one_page_line below tests h.entries (codes "bulk") (bulk_text n) a b h.line (subst (λ x. IsPageLine (IsValuesLine tests x) (codes "bulk") (bulk_text n) b) same k.line)
 
   pub one_plan : OnePlan
   one_plan tests (css d s) (alone a) (alone b) h k = ap alone (one_line d s a b h k)
   one_plan tests (css d s) (alone a) (over m q) h k = absurd k
   one_plan tests (css d s) (over l p) other h k = absurd h
   one_plan tests (run d s names) (alone a) (alone b) h k = ap alone (same_refusal s a b h k)
-  one_plan tests (run d s names) (alone a) (over m q) h k = absurd (below.read_or_refused tests d s k.1.fields h.why k.1.reads h.cause)
-  one_plan tests (run d s names) (over l p) (alone b) h k = absurd (below.read_or_refused tests d s h.1.fields k.why h.1.reads k.cause)
+  one_plan tests (run d s names) (alone a) (over m q) h k = absurd (below.read_or_refused tests d s k.1.entries h.why k.1.reads h.cause)
+  one_plan tests (run d s names) (over l p) (alone b) h k = absurd (below.read_or_refused tests d s h.1.entries k.why h.1.reads k.cause)
   one_plan tests (run d s names) (over l p) (over m q) h k =
-      let makes : MakesLines (IsValuesLine tests h.1.fields) m = makes_for tests d s h.1.fields k.1.fields h.1.reads k.1.reads m k.1.makes in
-      ap₂ over (same_values_lines below tests h.1.fields l m h.1.makes makes) (h.0 ∙ sym k.0)
+      let makes : MakesLines (IsValuesLine tests h.1.entries) m = makes_for tests d s h.1.entries k.1.entries h.1.reads k.1.reads m k.1.makes in
+      ap₂ over (same_values_lines below tests h.1.entries l m h.1.makes makes) (h.0 ∙ sym k.0)
   one_plan tests (bulk n) (alone a) (alone b) h k = ap alone (one_bulk_line tests n a b h k)
   one_plan tests (bulk n) (alone a) (over m q) h k = absurd k
   one_plan tests (bulk n) (over l p) other h k = absurd h
@@ -127,15 +127,15 @@ module _ (below : Below) where
     of_bulk n made P line each (alone a) h = each a (IfOk-weaker made _ _ (λ l is_line. one_bulk_line tests n (answer_of l) a is_line h) line)
     of_bulk n made P line each (over page names) h = absurd h
 
-    -- a script that reads as fields
-    pub of_script : (d : Dialect) (s : List ℕ) (names : List (List ℕ)) (fields : List Field) (P : Plan → Type 0) → IsScriptOver tests d s fields
-        → ((line : List ℕ → List ℕ → Answer) → MakesLines (IsValuesLine tests fields) line → P (over line names)) → (plan : Plan) → IsPlan tests (run d s names) plan → P plan
-    of_script d s names fields P reads each (alone a) h = absurd (below.read_or_refused tests d s fields h.why reads h.cause)
-    of_script d s names fields P reads each (over line pages) h =
-        subst (λ x. P (over line x)) (sym h.0) (each line (makes_for tests d s fields h.1.fields reads h.1.reads line h.1.makes))
+    -- a script that reads as entries
+    pub of_script : (d : Dialect) (s : List ℕ) (names : List (List ℕ)) (entries : List Entry) (P : Plan → Type 0) → IsRecordScript tests d s entries
+        → ((line : List ℕ → List ℕ → Answer) → MakesLines (IsValuesLine tests entries) line → P (over line names)) → (plan : Plan) → IsPlan tests (run d s names) plan → P plan
+    of_script d s names entries P reads each (alone a) h = absurd (below.read_or_refused tests d s entries h.why reads h.cause)
+    of_script d s names entries P reads each (over line pages) h =
+        subst (λ x. P (over line x)) (sym h.0) (each line (makes_for tests d s entries h.1.entries reads h.1.reads line h.1.makes))
 
     -- a script that is refused as a whole
-    pub of_refusal : (d : Dialect) (s : List ℕ) (names : List (List ℕ)) (why : ScriptFault) (made : Result Line NoMemory) (P : Plan → Type 0) → IsScriptFault s why
+    pub of_refusal : (d : Dialect) (s : List ℕ) (names : List (List ℕ)) (why : ScriptFault) (made : Result Line NoMemory) (P : Plan → Type 0) → IsRecordFault s why
         → IfOk made (λ l. IsScriptRefused s (answer_of l)) → ((a : Answer) → IfOk made (λ l. answer_of l ≡ a) → P (alone a)) → (plan : Plan) → IsPlan tests (run d s names) plan → P plan
     of_refusal d s names why made P cause line each (alone a) h = each a (IfOk-weaker made _ _ (λ l is_line. same_refusal s (answer_of l) a is_line h) line)
-    of_refusal d s names why made P cause line each (over page pages) h = absurd (below.read_or_refused tests d s h.1.fields why h.1.reads cause)
+    of_refusal d s names why made P cause line each (over page pages) h = absurd (below.read_or_refused tests d s h.1.entries why h.1.reads cause)

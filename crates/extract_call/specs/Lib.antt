@@ -1,6 +1,7 @@
 pub mod Answers
 pub mod Bulk
 pub mod CssLines
+pub mod FieldLines
 pub mod Laws
 pub mod Numbers
 pub mod Output

@@ -1,18 +1,18 @@
 -- The line of a page, which is made of what is asked of its document, of its name and its bytes, and of nothing else.
-use Rattle.std.specs.Prelude.{◌≡◌, ◌≤◌, ◌<◌, ℕ, ◌⊎◌, Bool, true, false, List, [], ◌∷◌, length, Ok, Err, encode_utf8_all}
+use Rattle.std.specs.Prelude.{◌≡◌, ◌≤◌, ◌<◌, ℕ, ◌⊎◌, true, false, List, [], ◌∷◌, length, Ok, Err, encode_utf8_all}
 use Rattle.std.specs.List.{list_any}
 use Rattle.text_base.specs.declared.reasons.PageFault.{PageFault}
 use Rattle.text_base.specs.declared.reasons.PageReason.TheVariants.{TooLong}
 use Rattle.text_base.specs.Decoding.{decoded}
 use Rattle.doc_model.specs.Document.{Document}
 use Rattle.html_reader.specs.Pages.{BuildsPage, IsPageFault}
-use Rattle.query_script.specs.declared.script.Field.{Field}
-use Rattle.query_script.specs.declared.script.FieldValue.{FieldValue}
-use Rattle.query_script.specs.declared.script.FieldValue.TheVariants.{All, One, Refused}
 use Rattle.test_registry.specs.Names.{Known}
-use Rattle.query_chain.specs.Chains.{IsValueOver}
 use Rattle.markup_out.specs.Markup.{canonical}
-use Rattle.json_lines.specs.Pages.{page_text, refused_text}
+use Rattle.json_lines.specs.Pages.{refused_text}
+use Rattle.page_records.specs.declared.script.Entry.{Entry}
+use Rattle.page_records.specs.declared.script.EntryValue.{EntryValue}
+use Rattle.page_records.specs.Lines.{line_text, holds_refusal}
+use Rattle.page_records.specs.Records.{IsEntryValue}
 use Rattle.extract_call.specs.Answers.{Answer}
 pub use Rattle.io_edges.specs.Pages.{most_page}
 
@@ -66,26 +66,21 @@ IsPageLine shows name bytes a = IsRefusedPageLine name bytes a ⊎ IsShownLine s
 abbrev pub MakesLines : (List ℕ → Document → Answer → Type 0) → (List ℕ → List ℕ → Answer) → Type 0
 MakesLines shows line = (name bytes : List ℕ) → IsPageLine shows name bytes (line name bytes)
 
--- ---- what a document shows by the fields of a script, where some tests are stored
+-- ---- what a document shows by the entries of a script, where some tests are stored
 
--- each field has the value at its place
-abbrev pub AreValues : Known → Document → List Field → List FieldValue → Type 0
+-- each entry has the value at its place: a field its own, and a block its records or its reason
+abbrev pub AreValues : Known → Document → List Entry → List EntryValue → Type 0
 AreValues tests doc [] [] = Unit {0}
 AreValues tests doc [] (v ∷ values) = ⊥
-AreValues tests doc (f ∷ fields) [] = ⊥
-AreValues tests doc (f ∷ fields) (v ∷ values) = IsValueOver tests doc f v × AreValues tests doc fields values
+AreValues tests doc (e ∷ entries) [] = ⊥
+AreValues tests doc (e ∷ entries) (v ∷ values) = IsEntryValue tests doc e v × AreValues tests doc entries values
 
--- the value is a refusal
-abbrev pub is_refused : FieldValue → Bool
-is_refused (All texts) = false
-is_refused (One text) = false
-is_refused (Refused why) = true
-
--- the line has the fields with their values on the document, and it holds a refusal where one of the fields is refused
-pub record IsValuesLine (tests : Known) (fields : List Field) (name : List ℕ) (doc : Document) (a : Answer) : Type 0 where
-  pub values : List FieldValue
-  pub are : AreValues tests doc fields values
-  pub line : a ≡ record { text = page_text name fields values; refused = list_any is_refused values }
+-- The line of a page has the entries of the script in their order, each with its value on the document, and the page's name. It
+-- holds a refusal where an entry is refused or a field of a record is.
+pub record IsValuesLine (tests : Known) (entries : List Entry) (name : List ℕ) (doc : Document) (a : Answer) : Type 0 where
+  pub values : List EntryValue
+  pub are : AreValues tests doc entries values
+  pub line : a ≡ record { text = line_text name entries values; refused = list_any holds_refusal values }
 
 -- ---- what a document shows as it is to be kept
 

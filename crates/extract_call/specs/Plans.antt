@@ -5,9 +5,9 @@ use Rattle.text_base.specs.Reasons.{script_word}
 use Rattle.test_registry.specs.Names.{Known}
 use Rattle.css_selectors.specs.declared.selector.Dialect.{Dialect}
 use Rattle.css_selectors.specs.declared.selector.Dialect.TheVariants.{Html}
-use Rattle.query_script.specs.declared.script.Field.{Field}
-use Rattle.query_script.specs.Fields.{IsScriptOver, IsScriptFault}
 use Rattle.json_lines.specs.Lines.{reason_text}
+use Rattle.page_records.specs.declared.script.Entry.{Entry}
+use Rattle.page_records.specs.Scripts.{IsRecordScript, IsRecordFault}
 use Rattle.extract_call.specs.Answers.{Answer}
 use Rattle.extract_call.specs.Bulk.{bulk_script, bulk_text}
 use Rattle.extract_call.specs.CssLines.{IsCssLine}
@@ -22,20 +22,20 @@ pub data Plan : Type 0 where
 -- the script is refused as a whole: the line has the reason
 pub record IsScriptRefused (script : List ℕ) (a : Answer) : Type 0 where
   pub why : ScriptFault
-  pub cause : IsScriptFault script why
+  pub cause : IsRecordFault script why
   pub line : a ≡ record { text = reason_text (codes "script." ++ script_word why); refused = true }
 
--- the script reads as fields, and this makes the lines of pages by them
+-- the script reads as fields and blocks, and this makes the lines of pages by them
 pub record IsByScript (tests : Known) (d : Dialect) (script : List ℕ) (line : List ℕ → List ℕ → Answer) : Type 0 where
-  pub fields : List Field
-  pub reads : IsScriptOver tests d script fields
-  pub makes : MakesLines (IsValuesLine tests fields) line
+  pub entries : List Entry
+  pub reads : IsRecordScript tests d script entries
+  pub makes : MakesLines (IsValuesLine tests entries) line
 
--- the script reads as fields, and this is the line of one page by them
+-- the script reads as fields and blocks, and this is the line of one page by them
 pub record IsOneLine (tests : Known) (d : Dialect) (script name bytes : List ℕ) (a : Answer) : Type 0 where
-  pub fields : List Field
-  pub reads : IsScriptOver tests d script fields
-  pub line : IsPageLine (IsValuesLine tests fields) name bytes a
+  pub entries : List Entry
+  pub reads : IsRecordScript tests d script entries
+  pub line : IsPageLine (IsValuesLine tests entries) name bytes a
 
 -- the line that the bulk script has for the bulk page of so many items, whose name is `bulk`
 abbrev pub IsBulkLine : Known → ℕ → Answer → Type 0

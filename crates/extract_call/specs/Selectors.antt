@@ -6,12 +6,13 @@ use Rattle.css_selectors.specs.declared.selector.SelectorList.{SelectorList}
 use Rattle.css_parser.specs.Selecting.{Accepts}
 use Rattle.css_printed.specs.Printed.{printed}
 use Rattle.css_printed.specs.Promise.{KeepsMeaning}
-use Rattle.query_script.specs.Selectors.{IsSelectorText}
+use Rattle.page_records.specs.Selectors.{IsSelectorText}
 use Rattle.xpath_lexer.specs.Places.{most_xpath}
 use Rattle.extract_call.specs.Bulk.{bulk_script}
 use Rattle.extract_call.specs.Words.{Command, css, run, bulk, clean}
 
--- The text is a selector of the command in this dialect: that of `css`, or of a css step of the script of `run` or `bulk`.
+-- The text is a selector of the command in this dialect: that of `css`, or of a css step of the script of `run` or `bulk`, which
+-- may be one of a field, of a block or of a field of a block.
 abbrev pub IsSelectorOf : Command → Dialect → List ℕ → Type 0
 IsSelectorOf (css d s) e text = (e ≡ d) × (text ≡ s)
 IsSelectorOf (run d s names) e text = (e ≡ d) × IsSelectorText s text

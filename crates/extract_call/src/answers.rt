@@ -1,7 +1,7 @@
 //! Lines with the truth whether they hold a refusal.
 ghost use Rattle.std.specs.Prelude.{◌≡◌, ◌++◌, IfOk, string_bytes, codes, false, true};
 ghost use Rattle.text_base.specs.Reasons.{selector_word};
-ghost use Rattle.query_script.specs.Fields.{IsScriptFault};
+ghost use Rattle.page_records.specs.Scripts.{IsRecordFault};
 ghost use Rattle.json_lines.specs.Lines.{reason_text};
 ghost use Rattle.extract_call.specs.Answers.{answer_of};
 ghost use Rattle.extract_call.specs.CssLines.{IsCssLine};
@@ -76,7 +76,7 @@ pub fn css_answer(alloc: Global, dialect: Dialect, text: &str) -> Result<Line, N
 
 /// The line of a script that is refused as a whole.
 pub fn script_answer(alloc: Global, script: &str, fault: ScriptFault) -> Result<Line, NoMemory>
-    requires { IsScriptFault script.now fault }
+    requires { IsRecordFault script.now fault }
     ensures { IfOk result (λ line. IsScriptRefused script.now (answer_of line)) }
 {
     let _ = script;

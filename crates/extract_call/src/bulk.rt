@@ -8,9 +8,9 @@ ghost use Rattle.extract_call.specs.Plans.{IsBulkLine};
 use crate::answers::{Line, script_answer};
 use crate::asked::Asked;
 use crate::laws::laws_below;
-use crate::page_lines::{page_answer, prepare_fields};
+use crate::page_lines::{page_answer, prepare_entries};
 use css_selectors::Dialect;
-use query_script::parse_script_with;
+use page_records::parse_records;
 use std::alloc::Global;
 use test_registry::Tests;
 use text_base::{NoMemory, ScriptFault};
@@ -104,13 +104,13 @@ pub fn bulk_answer(alloc: Global, n: u32, tests: &Tests) -> Result<Line, NoMemor
     ensures { IfOk result (λ line. IsBulkLine (known tests.now) n (answer_of line)) }
 {
     laws_below();
-    match parse_script_with(alloc, Dialect::Html, BULK_SCRIPT, tests) {
+    match parse_records(alloc, Dialect::Html, BULK_SCRIPT, tests) {
         Ok(script) => {
-            let ready = prepare_fields(alloc, script.fields.as_slice(), tests)?;
+            let ready = prepare_entries(alloc, script.entries.as_slice(), tests)?;
             let page = bulk_page(alloc, n)?;
             page_answer(
                 alloc,
-                Asked::Values(&script.fields, ready.as_slice()),
+                Asked::Values(&script.entries, ready.as_slice()),
                 "bulk",
                 page.as_bytes(),
                 tests,

@@ -13,6 +13,6 @@ mod top;
 mod words;
 mod writing;
 
-pub use laws::{bulk_script_reads, one_reading, the_plan, words_of_commands};
+pub use laws::{bulk_script_reads, one_reading, plain_scripts, the_plan, words_of_commands};
 pub use status::Status;
 pub use top::{extract, extract_with};

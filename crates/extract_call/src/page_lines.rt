@@ -1,28 +1,30 @@
 //! The line of a page, from its bytes.
 ghost use Rattle.std.specs.Prelude.{◌≡◌, ◌≢◌, ◌≤◌, length, map, All, IsOk, IfOk, true};
-ghost use Rattle.std.specs.List.{AllByRecursion, list_any};
+ghost use Rattle.std.specs.List.{AllByRecursion};
 ghost use Rattle.test_registry.specs.View.{known};
-ghost use Rattle.query_script.specs.Ordered.{IsOrderedOver, KeepsStored};
-ghost use Rattle.query_chain.specs.Chains.{outcome};
-ghost use Rattle.query_chain.specs.Tasks.{TaskAsks};
+ghost use Rattle.page_records.specs.Lines.{HasNames};
+ghost use Rattle.page_records.specs.Ordered.{IsOrderedEntry, IsStoredEntry};
+ghost use Rattle.page_records.specs.Records.{EntryAsks, entry_outcome};
 ghost use Rattle.json_lines.specs.Pages.{refused_text};
 ghost use Rattle.extract_call.specs.Answers.{answer_of};
 ghost use Rattle.extract_call.specs.inner.OnePage.{IsTextLine};
-ghost use Rattle.extract_call.specs.PageLines.{most_page, too_long, is_refused, IsPageLine, IsValuesLine, IsMarkupLine};
+ghost use Rattle.extract_call.specs.PageLines.{most_page, too_long, IsPageLine, IsValuesLine, IsMarkupLine};
 ghost use Rattle.extract_call.specs.inner.Asked.{shown_by, IsReady};
 ghost use Rattle.extract_call.specs.inner.Tasks.{AreTasks};
 
 use crate::answers::Line;
 use crate::asked::Asked;
+use crate::laws::laws_below;
 use arena_tree::ArenaGrow;
 use bumpalo::Bump;
 use doc_model::{Axes, Tree};
 use html_reader::read_html;
 use io_edges::PAGE_LIMIT;
-use json_lines::{page_line, refused_line};
+use json_lines::refused_line;
 use markup_back::canonical;
-use query_chain::{Ready, prepare_with, run_ready_at};
-use query_script::{Field, FieldValue};
+use page_records::{
+    Entry, EntryValue, ReadyEntry, holds_refusal, prepare_entry, record_line, run_ready_entry,
+};
 use std::alloc::Global;
 use step_index::Indexed;
 use test_registry::Tests;
@@ -57,74 +59,59 @@ pub fn long_answer(alloc: Global, name: &str) -> Result<Line, NoMemory>
     )
 }
 
-/// The queries of each field read over the stored tests and its patterns built, once for all pages of a run.
-pub fn prepare_fields(
+/// Each entry prepared over the stored tests, its queries read and its patterns built, once for all pages of a run.
+pub fn prepare_entries(
     alloc: Global,
-    fields: &[Field],
+    entries: &[Entry],
     tests: &Tests,
-) -> Result<Vec<Ready>, NoMemory>
-    requires ordered { AllByRecursion (IsOrderedOver (known tests.now)) fields.now }
-    requires stored { AllByRecursion (KeepsStored (known tests.now)) fields.now }
-    ensures tasks { IfOk result (λ ready. AreTasks (known tests.now) fields.now ready.items) }
-    ensures asks { IfOk result (λ ready. All (TaskAsks (known tests.now)) ready.items) }
+) -> Result<Vec<ReadyEntry>, NoMemory>
+    requires ordered { AllByRecursion (IsOrderedEntry (known tests.now)) entries.now }
+    requires stored { AllByRecursion (IsStoredEntry (known tests.now)) entries.now }
+    ensures tasks { IfOk result (λ ready. AreTasks (known tests.now) entries.now ready.items) }
+    ensures asks { IfOk result (λ ready. All (EntryAsks (known tests.now)) ready.items) }
 {
     let mut ready = Vec::new(alloc);
-    for field in fields {
-        ready.push(prepare_with(alloc, field, tests)?)?;
+    for entry in entries {
+        ready.push(prepare_entry(alloc, entry, tests)?)?;
     }
     Ok(ready)
 }
 
-/// The values on a document of the fields that are ready, in order.
+/// The values on a document of the entries that are ready, in order.
 fn values_of<S: Axes>(
     alloc: Global,
     source: &S,
-    ready: &[Ready],
+    ready: &[ReadyEntry],
     tests: &Tests,
-) -> Result<Seq<FieldValue>, NoMemory>
-    requires { All (TaskAsks (known tests.now)) ready.now }
-    ensures { IfOk result (λ values. values ≡ map (outcome (S.document source.now) 0) ready.now) }
+) -> Result<Seq<EntryValue>, NoMemory>
+    requires { All (EntryAsks (known tests.now)) ready.now }
+    ensures { IfOk result (λ values. values ≡ map (entry_outcome (S.document source.now)) ready.now) }
 {
     let mut values = Vec::new(alloc);
     for one in ready {
-        values.push(run_ready_at(alloc, source, one, 0, tests)?)?;
+        values.push(run_ready_entry(alloc, source, one, tests)?)?;
     }
     Ok(Seq::from_vec(values))
 }
 
-/// Whether a value is a refusal.
-fn is_refused(value: &FieldValue) -> bool
-    ensures { result ≡ is_refused value.now }
-{
-    match value {
-        FieldValue::All(_) | FieldValue::One(_) => false,
-        FieldValue::Refused(_) => true,
-    }
-}
-
-/// Whether one of the values is a refusal.
-fn holds_refusal(values: &[FieldValue]) -> bool
-    ensures { result ≡ list_any is_refused values.now }
-{
-    values.iter().any(is_refused)
-}
-
-/// The line of a document by the fields that are ready.
+/// The line of a document by the entries that are ready.
 fn values_answer<S: Axes>(
     alloc: Global,
-    fields: &Seq<Field>,
-    ready: &[Ready],
+    entries: &Seq<Entry>,
+    ready: &[ReadyEntry],
     name: &str,
     source: &S,
     tests: &Tests,
 ) -> Result<Line, NoMemory>
-    requires tasks { AreTasks (known tests.now) fields.now ready.now }
-    requires asks { All (TaskAsks (known tests.now)) ready.now }
-    ensures { IfOk result (λ line. IsValuesLine (known tests.now) fields.now name.now (S.document source.now) (answer_of line)) }
+    requires tasks { AreTasks (known tests.now) entries.now ready.now }
+    requires asks { All (EntryAsks (known tests.now)) ready.now }
+    requires names { AllByRecursion HasNames entries.now }
+    ensures { IfOk result (λ line. IsValuesLine (known tests.now) entries.now name.now (S.document source.now) (answer_of line)) }
 {
+    laws_below();
     let values = values_of(alloc, source, ready, tests)?;
-    let refused = holds_refusal(values.as_slice());
-    let text = page_line(alloc, name, fields, &values)?;
+    let refused = holds_refusal(&values);
+    let text = record_line(alloc, name, entries, &values)?;
     Ok(Line { text, refused })
 }
 
@@ -157,9 +144,9 @@ fn tree_answer<T: Tree + Drop>(
     ensures { IfOk result (λ line. shown_by (known tests.now) asked.entry name.now (T.document tree) (answer_of line)) }
 {
     match asked {
-        Asked::Values(fields, ready) => {
+        Asked::Values(entries, ready) => {
             let source = Indexed::without_ids(alloc, tree)?;
-            values_answer(alloc, fields, ready, name, &source, tests)
+            values_answer(alloc, entries, ready, name, &source, tests)
         }
         Asked::Markup => markup_answer(alloc, name, &tree),
     }

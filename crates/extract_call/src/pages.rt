@@ -4,7 +4,8 @@ ghost use Rattle.std.specs.List.{AllByRecursion};
 ghost use Rattle.io_edges.specs.Counts.{Rose, Grows};
 ghost use Rattle.io_edges.specs.Pages.{page, Lacks};
 ghost use Rattle.test_registry.specs.View.{known};
-ghost use Rattle.query_script.specs.Ordered.{IsOrderedOver, KeepsStored};
+ghost use Rattle.page_records.specs.Lines.{HasNames};
+ghost use Rattle.page_records.specs.Ordered.{IsOrderedEntry, IsStoredEntry};
 ghost use Rattle.extract_call.specs.Answers.{Answer, answer_of};
 ghost use Rattle.extract_call.specs.inner.OnePage.{TakesLine, TakesLinePart, Counted, status_of};
 ghost use Rattle.extract_call.specs.PageLines.{IsPageLine, IsValuesLine, MakesLines};
@@ -15,11 +16,11 @@ ghost use Rattle.extract_call.specs.inner.Asked.{shown_by, IsReady};
 use crate::answers::Line;
 use crate::asked::Asked;
 use crate::laws::laws_below;
-use crate::page_lines::{long_answer, page_answer, prepare_fields};
+use crate::page_lines::{long_answer, page_answer, prepare_entries};
 use crate::status::Status;
 use crate::writing::write_line;
 use io_edges::{Pages, ReadEnd, Sink, read_page};
-use query_script::Field;
+use page_records::Entry;
 use std::alloc::Global;
 use test_registry::Tests;
 use text_base::Seq;
@@ -112,28 +113,29 @@ pub fn write_each<P: Pages, W: Sink>(
     }
 }
 
-/// Makes the fields ready, once for all pages, and then reads each page and writes its line. Where no memory is found for the
+/// Makes the entries ready, once for all pages, and then reads each page and writes its line. Where no memory is found for the
 /// first, no page is begun.
 pub fn write_pages<P: Pages, W: Sink>(
     alloc: Global,
-    fields: &Seq<Field>,
+    entries: &Seq<Entry>,
     names: &[String],
     pages: &mut P,
     sink: &mut W,
     tests: &Tests,
 ) -> Status
-    requires ordered { AllByRecursion (IsOrderedOver (known tests.now)) fields.now }
-    requires stored { AllByRecursion (KeepsStored (known tests.now)) fields.now }
-    ensures run { (line : List ℕ → List ℕ → Answer) → MakesLines (IsValuesLine (known tests.now) fields.now) line → Run (over line (map string_bytes names.now)) (pages_at pages.old (P.told pages.old) (P.begun pages.old) (P.faults pages.old))
+    requires ordered { AllByRecursion (IsOrderedEntry (known tests.now)) entries.now }
+    requires stored { AllByRecursion (IsStoredEntry (known tests.now)) entries.now }
+    requires names { AllByRecursion HasNames entries.now }
+    ensures run { (line : List ℕ → List ℕ → Answer) → MakesLines (IsValuesLine (known tests.now) entries.now) line → Run (over line (map string_bytes names.now)) (pages_at pages.old (P.told pages.old) (P.begun pages.old) (P.faults pages.old))
         (pages_at pages.new (P.told pages.new) (P.begun pages.new) (P.faults pages.new))
         (sink_at (W.taken sink.old) (W.faults sink.old)) (sink_at (W.taken sink.new) (W.faults sink.new)) result }
     ensures other { result ≢ Status.Usage }
 {
     laws_below();
-    match prepare_fields(alloc, fields.as_slice(), tests) {
+    match prepare_entries(alloc, entries.as_slice(), tests) {
         Ok(ready) => write_each(
             alloc,
-            Asked::Values(fields, ready.as_slice()),
+            Asked::Values(entries, ready.as_slice()),
             names,
             pages,
             sink,

@@ -18,7 +18,7 @@ use crate::words::{Form, read};
 use crate::writing::write_alone;
 use css_selectors::Dialect;
 use io_edges::{Pages, Sink};
-use query_script::parse_script_with;
+use page_records::parse_records;
 use std::alloc::Global;
 use std::slice::from_ref;
 use test_registry::Tests;
@@ -62,8 +62,8 @@ fn write_run<P: Pages, W: Sink>(
     ensures other { result ≢ Status.Usage }
 {
     laws_below();
-    match parse_script_with(alloc, dialect, script, tests) {
-        Ok(read) => write_pages(alloc, &read.fields, names, pages, sink, tests),
+    match parse_records(alloc, dialect, script, tests) {
+        Ok(read) => write_pages(alloc, &read.entries, names, pages, sink, tests),
         Err(ScriptFault::Memory) => Status::Memory,
         Err(fault) => write_alone(script_answer(alloc, script, fault), sink),
     }
@@ -113,11 +113,11 @@ fn write_form<P: Pages, W: Sink>(
 
 /// Runs what the words say, where these tests are stored: `css DIALECT SELECTOR` writes the line of a selector,
 /// `run DIALECT SCRIPT PAGE..` a line for each page, `bulk N` the line of the bulk page of N items, and `clean PAGE` the canonical
-/// markup of the page. A script may ask the tests by their names, in XPath and in `keep`.
+/// markup of the page. A script may ask the tests by their names, in XPath and in `keep`, and it may have blocks of records.
 ///
 /// Whatever the status, the sink took a prefix of the output. `Usage` comes exactly where the words have none of the forms, and
 /// then nothing was read or written. A page that is refused has its line, and the run goes on; a page that can't be read ends it.
-/// The fields of a script are prepared once, before the first page is begun.
+/// The fields and blocks of a script are prepared once, before the first page is begun.
 pub fn extract_with<P: Pages, W: Sink>(
     alloc: Global,
     words: &[String],
@@ -133,7 +133,7 @@ pub fn extract_with<P: Pages, W: Sink>(
         (pages_at pages.new (P.told pages.new) (P.begun pages.new) (P.faults pages.new))
         (sink_at (W.taken sink.old) (W.faults sink.old)) (sink_at (W.taken sink.new) (W.faults sink.new)) result) }
 
-    // The XPath of each selector of the words keeps the selector's meaning: that of `css`, and those of the css steps of a script.
+    // The XPath of each selector of the words keeps the selector's meaning: that of `css`, and those of the css steps of a script, in blocks too.
     ensures meaning { IfSome (read (map string_bytes words.now)) (λ command. (d : Dialect) (text : List ℕ) → IsSelectorOf command d text → IsKept d text) }
 {
     laws_below();

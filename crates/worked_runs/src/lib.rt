@@ -12,6 +12,8 @@ mod limits;
 #[cfg(test)]
 mod pages;
 #[cfg(test)]
+mod records;
+#[cfg(test)]
 mod runs;
 #[cfg(test)]
 mod selectors;
