@@ -1,5 +1,5 @@
 -- The XPath of each selector of a command keeps the selector's meaning.
-use Rattle.std.proofs.Common.{◌≡◌, refl, ℕ, List, map, subst, sym, Option, Some, None, codes, string_bytes, [], ◌∷◌}
+use Rattle.std.proofs.Common.{◌≡◌, refl, ℕ, List, map, subst, sym, Option, Some, None, codes, string_bytes, []}
 use Rattle.std.specs.Prelude.{IfSome, String}
 use Rattle.std.specs.List.{AllByRecursion}
 use Rattle.std.specs.Str.{IsUtf8}

@@ -1,15 +1,12 @@
 -- Where no block stands in a script, its lines are those of its fields.
-use Rattle.std.proofs.Common.{◌≡◌, refl, ℕ, true, false, List, [], ◌∷◌, ◌++◌, map, ap, ap₂, sym, ◌∙◌, subst, inl, inr, codes}
+use Rattle.std.proofs.Common.{◌≡◌, refl, ℕ, true, List, [], ◌∷◌, ◌++◌, map, ap, ap₂, sym, ◌∙◌, subst, inl, inr, codes}
 use Rattle.std.specs.List.{list_any}
-use Rattle.text_base.specs.declared.reasons.ScriptFault.{ScriptFault}
 use Rattle.text_base.specs.Reasons.{script_word}
 use Rattle.doc_model.specs.Document.{Document}
 use Rattle.test_registry.specs.Names.{Known}
-use Rattle.css_selectors.specs.declared.selector.Dialect.{Dialect}
 use Rattle.css_selectors.specs.declared.selector.Dialect.TheVariants.{Html}
 use Rattle.query_script.specs.declared.script.Field.{Field}
 use Rattle.query_script.specs.declared.script.FieldValue.{FieldValue}
-use Rattle.query_script.specs.Fields.{IsScriptOver, IsScriptFault}
 use Rattle.query_chain.specs.Chains.{outcome, IsValueOver}
 use Rattle.json_lines.specs.Lines.{reason_text}
 use Rattle.json_lines.specs.Pages.{page_text}
@@ -17,7 +14,6 @@ use Rattle.page_records.specs.declared.script.Entry.{Entry}
 use Rattle.page_records.specs.declared.script.Entry.TheVariants as entry
 use Rattle.page_records.specs.declared.script.EntryValue.{EntryValue}
 use Rattle.page_records.specs.declared.script.EntryValue.TheVariants as entry_value
-use Rattle.page_records.specs.Braces.{opens, stands}
 use Rattle.page_records.specs.Lines.{line_text, is_refused, holds_refusal}
 use Rattle.page_records.specs.Records.{plain, refuses, each, IsEntryValue}
 use Rattle.page_records.specs.Scripts.{IsRecordScript}
@@ -101,18 +97,18 @@ module _ (below : Below) where
       let other : List ℕ → Document → Answer → Type 0 = IsFieldsLine tests fields in
       let so : IsRecordScript tests d script (map entry.Plain fields) = below.reads_as_fields tests d script fields plain_script reads in
       let forth : (names ≡ names) × IsByScript tests d script line → MakesLines other line = λ h.
-          makes_as shows other (by_fields tests fields) line
-          (subst (λ (x : List Entry). MakesLines (IsValuesLine tests x) line) (below.one_script tests d script h.1.entries (map entry.Plain fields) h.1.reads so) h.1.makes) in
+      makes_as shows other (by_fields tests fields) line
+      (subst (λ (x : List Entry). MakesLines (IsValuesLine tests x) line) (below.one_script tests d script h.1.entries (map entry.Plain fields) h.1.reads so) h.1.makes) in
       let back : MakesLines other line → (names ≡ names) × IsByScript tests d script line = λ h.
-          (refl, record { entries = map entry.Plain fields; reads = so; makes = makes_as other shows (by_entries tests fields) line h }) in
+      (refl, record { entries = map entry.Plain fields; reads = so; makes = makes_as other shows (by_entries tests fields) line h }) in
       (forth, back)
 
   pub plain_refusals : PlainRefusals
   plain_refusals tests d script names why a plain_script fault =
       let forth : IsScriptRefused script a → a ≡ record { text = reason_text (codes "script." ++ script_word why); refused = true } = λ h.
-          h.line ∙ ap (λ w. record { text = reason_text (codes "script." ++ script_word w); refused = true }) (below.one_script_fault script h.why why h.cause (below.refused_as_fields script why plain_script fault)) in
+      h.line ∙ ap (λ w. record { text = reason_text (codes "script." ++ script_word w); refused = true }) (below.one_script_fault script h.why why h.cause (below.refused_as_fields script why plain_script fault)) in
       let back : a ≡ record { text = reason_text (codes "script." ++ script_word why); refused = true } → IsScriptRefused script a = λ e.
-          record { why = why; cause = below.refused_as_fields script why plain_script fault; line = e } in
+      record { why = why; cause = below.refused_as_fields script why plain_script fault; line = e } in
       (forth, back)
 
   bulk_by_fields : (tests : Known) (n : ℕ) (fields : List Field) (a : Answer) → IsRecordScript tests Html bulk_script (map entry.Plain fields) → IsBulkLine tests n a
@@ -126,5 +122,5 @@ module _ (below : Below) where
   plain_bulk tests n fields a reads =
       let so : IsRecordScript tests Html bulk_script (map entry.Plain fields) = below.reads_as_fields tests Html bulk_script fields no_block reads in
       let back : IsPageLine (IsFieldsLine tests fields) (codes "bulk") (bulk_text n) a → IsBulkLine tests n a = λ h.
-          inr (record { entries = map entry.Plain fields; reads = so; line = line_as (IsFieldsLine tests fields) (IsValuesLine tests (map entry.Plain fields)) (by_entries tests fields) (codes "bulk") (bulk_text n) a h }) in
+      inr (record { entries = map entry.Plain fields; reads = so; line = line_as (IsFieldsLine tests fields) (IsValuesLine tests (map entry.Plain fields)) (by_entries tests fields) (codes "bulk") (bulk_text n) a h }) in
       (bulk_by_fields tests n fields a so, back)

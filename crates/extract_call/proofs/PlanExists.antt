@@ -1,5 +1,5 @@
 -- Each command whose words are UTF-8 has a plan.
-use Rattle.std.proofs.Common.{refl, ℕ, true, List, [], ◌∷◌, ◌++◌, map, codes, inl, inr, ◌⊎◌, ◌≡◌, subst}
+use Rattle.std.proofs.Common.{refl, ℕ, true, List, [], ◌∷◌, ◌++◌, map, codes, inl, inr, ◌⊎◌}
 use Rattle.std.specs.List.{AllByRecursion}
 use Rattle.std.specs.Str.{IsUtf8}
 use Rattle.text_base.specs.declared.reasons.ScriptFault.{ScriptFault}

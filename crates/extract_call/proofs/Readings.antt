@@ -1,5 +1,5 @@
 -- Each text is one list, or is refused for one reason.
-use Rattle.std.proofs.Common.{◌≡◌, refl, ℕ, ◌<◌, ◌≤◌, Bool, true, false, List, sym, ◌∙◌, subst, arith, inl, inr, ◌⊎◌}
+use Rattle.std.proofs.Common.{◌≡◌, refl, ℕ, ◌<◌, ◌≤◌, Bool, true, false, List, sym, ◌∙◌, arith, inl, inr, ◌⊎◌}
 use Rattle.std.specs.Prelude.{nat_le}
 use Rattle.std.proofs.lemmas.Bool.Decides.{nat_tests}
 use Rattle.text_base.specs.declared.reasons.SelectorFault.{SelectorFault}
@@ -7,7 +7,6 @@ use Rattle.text_base.specs.declared.reasons.SelectorFault.TheVariants as fault
 use Rattle.css_selectors.specs.declared.selector.Dialect.{Dialect}
 use Rattle.css_selectors.specs.declared.selector.SelectorList.{SelectorList}
 use Rattle.css_parser.specs.Selecting.{Accepts, IsFault}
-use Rattle.css_printed.specs.Printed.{printed}
 use Rattle.extract_call.specs.inner.Below.{Below}
 use Rattle.query_script.specs.Queries.{IsCssFault, IsXPathLong}
 use Rattle.extract_call.specs.Laws.{OneReading}

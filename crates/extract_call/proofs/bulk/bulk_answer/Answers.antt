@@ -31,7 +31,7 @@ page_answer-requires g c =
     let tests = known c.args.tests.now in
     let ready = sym c.as_slice-in-Ok.ensures.value in (
       subst (λ (es : List Entry). AreTasks tests es c.as_slice-in-Ok.result.now) c.as_slice.ensures
-      (subst (λ (ts : List EntryTask). AreTasks tests c.as_slice.result.now ts) ready c.in_ok-ready-in-Ok.ensures.tasks),
+          (subst (λ (ts : List EntryTask). AreTasks tests c.as_slice.result.now ts) ready c.in_ok-ready-in-Ok.ensures.tasks),
       (subst (λ (ts : List EntryTask). All (EntryAsks tests) ts) ready c.in_ok-ready-in-Ok.ensures.asks, c.in-Ok.ensures.names),
     )
 

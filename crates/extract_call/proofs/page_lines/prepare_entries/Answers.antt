@@ -1,6 +1,4 @@
-use Rattle.std.proofs.lemmas.List.Elements.{All-nil}
 use Rattle.test_registry.specs.View.{known}
-use Rattle.page_records.specs.Records.{EntryAsks}
 use Rattle.extract_call.proofs.Tasks.{task_more, asks_more}
 use Rattle.extract_call.proofs.page_lines.prepare_entries.Goals as goal
 
