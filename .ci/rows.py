@@ -4,6 +4,7 @@
   Selector, Refusal, Why                     the refusal of `css html`
   Page, Written by `clean`                   what `clean` writes, without its last line feed, or the page's refusal `at` its place
   Page, Field, Gives                         the value of the field on the page, or its refusal, or the page's refusal `at` its place
+  Page, Block, Gives                         the same of a block, whose value is a list of objects
   Page, Field, `extract` gives, parsel gives the same, and beside it what parsel gives, where python3 has it
   Reason, Where, For example, ..             the page after `For example`, refused so `at` its place
   Reason, The XPath, For example             the field `xpath('..')` of the XPath after `For example`, refused so
@@ -21,7 +22,7 @@ import tempfile
 HAS = {
     "docs/SELECTORS.md": (("Dialect", "Selector", "XPath"), ("Selector", "Refusal")),
     "docs/HTML_PROFILE.md": (("Open", "Ends before"), ("Reason", "Where", "For example"), ("Page", "Field", "Gives"), ("Page", "Written by clean")),
-    "docs/SCRIPTS.md": (("Reason", "The XPath", "For example"), ("Page", "Field", "Gives")),
+    "docs/SCRIPTS.md": (("Reason", "The XPath", "For example"), ("Page", "Field", "Gives"), ("Page", "Block", "Gives")),
     "docs/FROM_PARSEL.md": (("Page", "Field", "extract gives", "parsel gives"),),
 }
 
@@ -168,6 +169,7 @@ KINDS = {
     ("Dialect", "Selector", "XPath", "Specificity"): row_of_css,
     ("Selector", "Refusal", "Why"): row_refused,
     ("Page", "Field", "Gives"): row_of_page,
+    ("Page", "Block", "Gives"): row_of_page,
     ("Page", "Written by clean"): row_of_clean,
     ("Page", "Field", "extract gives", "parsel gives"): row_of_both,
     ("Reason", "Where", "For example"): row_of_reason,
