@@ -10,8 +10,21 @@ import subprocess
 import sys
 
 
+def refused_in(field):
+    """Why the field is refused, or which members of its records are, each once; such a member becomes None."""
+    if "refused" in field:
+        return [f"{field['name']}: {field['refused']}"]
+    found = {}
+    for record in field["value"] if isinstance(field["value"], list) else ():
+        for name, value in record.items() if isinstance(record, dict) else ():
+            if isinstance(value, dict):
+                found[f"{field['name']}.{name}: {value['refused']}"] = record[name] = None
+    return list(found)
+
+
 def read_pages(script, pages, dialect="html"):
-    """Yields a dict for each page, in order: its name, its fields by their names, and what of it is refused, or None."""
+    """Yields a dict for each page, in order: its name, its fields by their names, and what of it is refused, or None. A field is a text, None,
+    a list of texts, or of a block of records a list of dicts."""
     for some in (pages[i : i + 500] for i in range(0, len(pages), 500)):
         done = 0
         with subprocess.Popen(["extract", "run", dialect, script, *some], stdout=subprocess.PIPE) as ran:
@@ -19,15 +32,22 @@ def read_pages(script, pages, dialect="html"):
                 if "page" not in line:
                     raise ValueError(line["refused"])
                 fields = line.get("fields", [])
-                refused = [f"{line['refused']} at {line['at']}"] if "at" in line else [f"{it['name']}: {it['refused']}" for it in fields if "refused" in it]
+                refused = [f"{line['refused']} at {line['at']}"] if "at" in line else [why for it in fields for why in refused_in(it)]
                 yield {"page": line["page"], "fields": {it["name"]: it.get("value") for it in fields}, "refused": ", ".join(refused) or None}
         if ran.returncode not in (0, 1):
             kind = {2: ValueError, 3: MemoryError}.get(ran.returncode, OSError)
             raise kind(f"extract ended with status {ran.returncode}, after {done} of {len(some)} pages: {some[done:][:1]}")
 
 
+def records_of(found, name):
+    """Yields each record of the block of this name with its page, over all pages that have it."""
+    for it in found:
+        for record in it["fields"].get(name) or ():
+            yield {"page": it["page"], **record}
+
+
 def table_of(found):
-    """The same as a row of names and a row a page, whose cells are texts: a list is written as JSON."""
+    """What `read_pages` yields as a row of names and a row a page, whose cells are texts: a list is written as JSON."""
     found = list(found)
     names = list(dict.fromkeys(name for it in found for name in it["fields"]))
     yield ["page", "refused", *names]
