@@ -1,3 +1,4 @@
+mod Refuted
 mod Worked
 pub mod ConditionCases
 pub mod KeepsAll

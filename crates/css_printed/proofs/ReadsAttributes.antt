@@ -1,5 +1,5 @@
 -- The tests of attributes, as predicates.
-use Rattle.std.proofs.Common.{subst, refl, append_assoc, ℕ, Bool, true, false, cond, List, [], ◌∷◌, ◌++◌, length, codes, ◌-◌, ◌||◌}
+use Rattle.std.proofs.Common.{subst, refl, append_assoc, ℕ, Bool, true, false, cond, List, [], ◌∷◌, ◌++◌, codes, ◌||◌}
 use Rattle.std.specs.List.{list_any}
 use Rattle.text_base.specs.Text.{is_space5}
 use Rattle.text_base.specs.Strings.{is_empty}
@@ -12,6 +12,7 @@ use Rattle.xpath_parser.specs.declared.term.Term.{Term}
 use Rattle.xpath_parser.specs.declared.term.Term.TheVariants as t
 use Rattle.xpath_parser.specs.Grammar as g
 use Rattle.xpath_parser.specs.Grammar.{Reads, Node}
+use Rattle.css_printed.specs.Simples.{behind_first}
 use Rattle.css_printed.specs.inner.Predicates as x
 use Rattle.css_printed.proofs.Readings.{up, to_2, to_5, to_8, whole}
 use Rattle.css_printed.proofs.ReadsPieces.{to_6, to_7, Brackets, bracket, nowhere_reads, equal, minus, and_two, or_two, round, number_reads, call_one, call_two, call_three}
@@ -53,7 +54,7 @@ module _ (at : List Term) (y : Expr) (r : Reads at (g.at 0 y)) where
   suffix_reads v =
       or_nowhere (is_empty v)
       (bracket (up 7 (and_two (to_6 r) (equal
-      (to_5 (to_2 (call_two f.Substring (whole r) (to_8 (up 5 (up 4 (minus (call_one f.StringLength (whole r)) (number_reads (length v - 1))) refl) refl)))))
+      (to_5 (to_2 (call_two f.Substring (whole r) (to_8 (up 5 (up 4 (minus (call_one f.StringLength (whole r)) (number_reads (behind_first v))) refl) refl)))))
       (to_5 (to_2 (text_reads v))))) refl))
 
   substring_reads : (v : List ℕ) → Brackets (p.substring at v) (x.substring_predicate y v ∷ [])

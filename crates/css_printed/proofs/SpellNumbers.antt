@@ -1,9 +1,9 @@
 -- Whole numbers of printed texts.
-use Rattle.std.proofs.Common.{◌≡◌, refl, ◌∙◌, ap, ℕ, ◌+◌, ◌-◌, ◌*◌, ◌/◌, ◌%◌, ◌≤◌, ◌<◌, ◌^◌, true, false, ◌||◌, [], ◌∷◌, ◌++◌, length, length-append, Some, arith, ◌==◌}
+use Rattle.std.proofs.Common.{◌≡◌, refl, ◌∙◌, ap, ℕ, ◌≤◌, ◌<◌, true, false, ◌||◌, [], ◌∷◌, ◌++◌, length, Some, arith, ◌==◌}
 use Rattle.std.specs.Prelude.{pos, nat_le}
 use Rattle.std.specs.List.{list_any, list_all}
 use Rattle.std.specs.Fmt.{decimal}
-use Rattle.std.proofs.lemmas.Bool.{and_parts, and_from, or_parts, or_from}
+use Rattle.std.proofs.lemmas.Bool.{and_parts, or_parts, or_from}
 use Rattle.std.proofs.lemmas.Bool.Decides.{nat_tests}
 use Rattle.xpath_lexer.specs.declared.token.XKind.TheVariants as k
 use Rattle.text_base.specs.Names.{is_name_start, is_name_byte}

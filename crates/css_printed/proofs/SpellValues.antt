@@ -1,5 +1,5 @@
 -- The literals of values with more around them, and all tests on an attribute's value.
-use Rattle.std.proofs.Common.{refl, subst, ℕ, suc, ◌-◌, ◌≤◌, true, false, List, [], ◌∷◌, ◌++◌, length, codes, arith}
+use Rattle.std.proofs.Common.{refl, subst, ℕ, suc, ◌≤◌, true, false, List, [], ◌∷◌, ◌++◌, length, codes, arith}
 use Rattle.std.specs.Prelude.{encode_utf8_all, ◌||◌}
 use Rattle.std.specs.Fmt.{decimal}
 use Rattle.std.specs.List.{list_any}
@@ -15,7 +15,7 @@ use Rattle.xpath_parser.specs.declared.expression.Func.TheVariants as f
 use Rattle.xpath_parser.specs.declared.term.Term.{Term}
 use Rattle.xpath_parser.specs.declared.term.Term.TheVariants as t
 use Rattle.css_printed.specs.Literals.{literal_text}
-use Rattle.css_printed.specs.Simples.{nowhere, word_text, prefix_text, suffix_text, substring_text, op_text}
+use Rattle.css_printed.specs.Simples.{behind_first, nowhere, word_text, prefix_text, suffix_text, substring_text, op_text}
 use Rattle.css_selectors.specs.Texts.{IsText}
 use Rattle.css_printed.proofs.SpellFixed.{Puts, choose_puts}
 use Rattle.css_printed.proofs.SpellLiterals.{literal_puts, literal_long}
@@ -39,7 +39,7 @@ spaced_literal v h r =
     let P : Text → Type 0 = λ x. Puts (suc r) false (suc r) true (literal_text (codes " " ++ x)) (terms.literal (codes " " ++ (v ++ codes " "))) in
     subst P (encodes-append v (codes " ")) (literal_puts r (codes " " ++ (v ++ codes " ")) (text_append v (codes " ") h refl))
 
-value_long : (v : List ℕ) → length v - 1 ≤ length (literal_text (encode_utf8_all v))
+value_long : (v : List ℕ) → behind_first v ≤ length (literal_text (encode_utf8_all v))
 value_long v = omega (arith, length-le-encodes v, literal_long (encode_utf8_all v))
 
 -- all tests on the value of an attribute
@@ -80,11 +80,11 @@ module _ (attr : Text) (at : List Term) (attr_puts : (r : ℕ) → Puts (suc (su
     suffix_op r =
         choose_puts (six r) true (six r) true (is_empty v) nowhere
         (codes "[" ++ (attr ++ (codes " and substring(" ++ (attr ++ (codes ", string-length(" ++ (attr ++ (codes ") - " ++
-        (decimal (length v - 1) ++ (codes ") = " ++ (literal_text (encode_utf8_all v) ++ codes "]"))))))))))
+        (decimal (behind_first v) ++ (codes ") = " ++ (literal_text (encode_utf8_all v) ++ codes "]"))))))))))
         terms.nowhere
-        (terms.in_square (at ++ (t.And ∷ (terms.call f.Substring (at ++ (t.Comma ∷ (terms.call f.StringLength at ++ (t.Minus ∷ terms.number (length v - 1) ∷ [])))) ++ (t.Equal ∷ terms.literal v)))))
+        (terms.in_square (at ++ (t.And ∷ (terms.call f.Substring (at ++ (t.Comma ∷ (terms.call f.StringLength at ++ (t.Minus ∷ terms.number (behind_first v) ∷ [])))) ++ (t.Equal ∷ terms.literal v)))))
         (λ e. nowhere_puts (suc (suc (suc (suc (suc r))))))
-        (λ e. suffix_puts attr (literal_text (encode_utf8_all v)) (literal_text (encode_utf8_all v)) at (terms.literal v) (terms.literal v) attr_puts plain plain (length v - 1) (value_long v) r)
+        (λ e. suffix_puts attr (literal_text (encode_utf8_all v)) (literal_text (encode_utf8_all v)) at (terms.literal v) (terms.literal v) attr_puts plain plain (behind_first v) (value_long v) r)
 
     pub op_puts : (o : Op) (r : ℕ) → Puts (six r) true (six r) true (op_text attr o v) (terms.op_terms at o v)
     op_puts op.Exists r = exists_puts attr (literal_text (encode_utf8_all v)) (literal_text (encode_utf8_all v)) at (terms.literal v) (terms.literal v) attr_puts plain plain r

@@ -1,5 +1,5 @@
 -- The printed pieces as terms, template by template: the same tables as those of the texts.
-use Rattle.std.proofs.Common.{ℕ, ◌-◌, ◌||◌, List, [], ◌∷◌, ◌++◌, map, length, Option, Some, None, codes}
+use Rattle.std.proofs.Common.{ℕ, ◌||◌, List, [], ◌∷◌, ◌++◌, map, Option, Some, None, codes}
 use Rattle.std.specs.Prelude.{ℤ, pos, if◌then◌else◌}
 use Rattle.std.specs.List.{flat_map, list_any}
 use Rattle.std.specs.Char.{to_ascii_lowercase}
@@ -35,6 +35,7 @@ use Rattle.xpath_parser.specs.declared.expression.Func.TheVariants as f
 use Rattle.xpath_parser.specs.declared.term.NodeType.TheVariants as node_type
 use Rattle.xpath_parser.specs.declared.term.Term.{Term}
 use Rattle.xpath_parser.specs.declared.term.Term.TheVariants as t
+use Rattle.css_printed.specs.Simples.{behind_first}
 use Rattle.css_printed.specs.Conditions.{Condition, never, exactly, at_least, at_most, every, conditions}
 use Rattle.css_printed.specs.Literals.{Quoted, literal_parts}
 use Rattle.css_printed.specs.Names.{is_plain}
@@ -109,7 +110,7 @@ prefix at v = if is_empty v then nowhere else in_square (at ++ (t.And ∷ call f
 abbrev pub suffix : List Term → List ℕ → List Term
 suffix at v =
     if is_empty v then nowhere else
-    in_square (at ++ (t.And ∷ (call f.Substring (at ++ (t.Comma ∷ (call f.StringLength at ++ (t.Minus ∷ number (length v - 1) ∷ [])))) ++ (t.Equal ∷ literal v))))
+    in_square (at ++ (t.And ∷ (call f.Substring (at ++ (t.Comma ∷ (call f.StringLength at ++ (t.Minus ∷ number (behind_first v) ∷ [])))) ++ (t.Equal ∷ literal v))))
 
 abbrev pub substring : List Term → List ℕ → List Term
 substring at v = if is_empty v then nowhere else in_square (at ++ (t.And ∷ call f.Contains (at ++ (t.Comma ∷ literal v))))

@@ -1,5 +1,5 @@
 -- The types of the predicates of the tests that hold no selectors.
-use Rattle.std.proofs.Common.{◌≡◌, refl, ◌∙◌, ap, ℕ, suc, ◌-◌, Bool, true, false, ◌&&◌, ◌||◌, cond, List, [], ◌∷◌, ◌++◌, map, length, Option, Some, None, codes, arith}
+use Rattle.std.proofs.Common.{◌≡◌, refl, ◌∙◌, ap, ℕ, suc, Bool, true, false, ◌&&◌, ◌||◌, cond, List, [], ◌∷◌, ◌++◌, map, length, Option, Some, None, codes, arith}
 use Rattle.std.specs.Prelude.{ℤ, pos, nat_le}
 use Rattle.std.specs.Char.{to_ascii_lowercase}
 use Rattle.std.specs.List.{list_all, list_any}
@@ -26,6 +26,7 @@ use Rattle.xpath_parser.specs.declared.expression.Expr.TheVariants as e
 use Rattle.xpath_parser.specs.declared.expression.Func.TheVariants as f
 use Rattle.xpath_parser.specs.declared.expression.Infix.TheVariants as infix_of
 use Rattle.xpath_parser.specs.Shapes.{Typing, typing}
+use Rattle.css_printed.specs.Simples.{behind_first}
 use Rattle.css_printed.specs.Conditions.{Condition, never, exactly, at_least, at_most, every, conditions}
 use Rattle.css_printed.specs.Literals.{Quoted, literal_parts}
 use Rattle.css_printed.specs.Names.{is_plain}
@@ -118,7 +119,7 @@ module _ (y : Expr) (a : Typed y shape.Nodes) where
   suffix_right v =
       or_nowhere (is_empty v)
       (both_typed a (equals_typed
-      (call_two f.Substring a (joins_typed infix_of.Sub (call_one f.StringLength a refl) (number_typed (pos (length v - 1)))) refl)
+      (call_two f.Substring a (joins_typed infix_of.Sub (call_one f.StringLength a refl) (number_typed (pos (behind_first v)))) refl)
       (text_typed v)))
 
   pub op_right : (o : Op) (v : List ℕ) → AllRight (x.op_predicate y o v ∷ [])

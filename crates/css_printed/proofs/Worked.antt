@@ -18,20 +18,20 @@ use Rattle.css_printed.specs.Printed.{part_text}
 use Rattle.css_printed.specs.TestTexts.{test_said, compound_text, part_steps, path_text, relative_text, simple_text}
 use Rattle.css_printed.proofs.PrintedAt.{text_at_simple, text_at_compound, said_element, said_id, said_class, said_attr, said_nth, said_pseudo, said_lang, said_any, said_has, text_at_first, text_at_part, text_at_relative}
 
-zero_digit : decimal 0 ≡ 48 ∷ []
+pub zero_digit : decimal 0 ≡ 48 ∷ []
 zero_digit = decimal_digit 0 (omega arith)
 
 one_digit : decimal 1 ≡ 49 ∷ []
 one_digit = decimal_digit 1 (omega arith)
 
-two_digit : decimal 2 ≡ 50 ∷ []
+pub two_digit : decimal 2 ≡ 50 ∷ []
 two_digit = decimal_digit 2 (omega arith)
 
-three_digit : decimal 3 ≡ 51 ∷ []
+pub three_digit : decimal 3 ≡ 51 ∷ []
 three_digit = decimal_digit 3 (omega arith)
 
 -- the text of a part, of the first of a relative, of a relative, of a compound, of a simple and of a negated one
-part_is : (d : Dialect) (l : Link) (n : Option (List ℕ)) (ss : List Simple) → part_text d (part l n ss) ≡ step_text d l n ++ flat_map (λ x. simple_text d x n) ss
+pub part_is : (d : Dialect) (l : Link) (n : Option (List ℕ)) (ss : List Simple) → part_text d (part l n ss) ≡ step_text d l n ++ flat_map (λ x. simple_text d x n) ss
 part_is d l n ss = text_at_part d (part l n ss) ∙ ap (λ q. step_text d q.link q.element ++ flat_map (λ x. simple_text d x q.element) q.simples) (views.out-roll-Part (record { link = l; element = n; simples = ss }))
 
 first_is : (d : Dialect) (l : Link) (n : Option (List ℕ)) (ss : List Simple) → (part_steps d (part l n ss)).first ≡ first_text d l n ++ flat_map (λ x. simple_text d x n) ss
@@ -45,10 +45,10 @@ compound_is d n around ss =
     text_at_compound d (compound n ss) around
     ∙ ap (λ q. codes "self::" ++ (element_text d q.element ++ flat_map (λ x. simple_text d x (innermost around q.element)) q.simples)) (views.out-roll-Compound (record { element = n; simples = ss }))
 
-plain_is : (d : Dialect) (u : Test) (around : Option (List ℕ)) → simple_text d (is u) around ≡ (test_said d u around).brackets
+pub plain_is : (d : Dialect) (u : Test) (around : Option (List ℕ)) → simple_text d (is u) around ≡ (test_said d u around).brackets
 plain_is d u around = text_at_simple d (is u) around
 
-not_is : (d : Dialect) (u : Test) (around : Option (List ℕ)) → simple_text d (is_not u) around ≡ codes "[not(" ++ ((test_said d u around).inside ++ codes ")]")
+pub not_is : (d : Dialect) (u : Test) (around : Option (List ℕ)) → simple_text d (is_not u) around ≡ codes "[not(" ++ ((test_said d u around).inside ++ codes ")]")
 not_is d u around = text_at_simple d (is_not u) around
 
 pub worked : WorkedTexts

@@ -9,4 +9,5 @@ pub mod PrintedLaw
 pub mod Promise
 pub mod Simples
 pub mod TestTexts
+pub mod WrongTexts
 pub mod inner

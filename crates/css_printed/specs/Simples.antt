@@ -40,12 +40,16 @@ prefix_text attribute v =
     if is_empty v then nowhere else
     codes "[" ++ (attribute ++ (codes " and starts-with(" ++ (attribute ++ (codes ", " ++ (literal_text (encode_utf8_all v) ++ codes ")]")))))
 
+-- how many characters of v stand behind its first one
+abbrev pub behind_first : List ℕ → ℕ
+behind_first v = length v - 1
+
 -- the last characters of the value, as many as v has
 abbrev pub suffix_text : List ℕ → List ℕ → List ℕ
 suffix_text attribute v =
     if is_empty v then nowhere else
     codes "[" ++ (attribute ++ (codes " and substring(" ++ (attribute ++ (codes ", string-length(" ++ (attribute ++ (codes ") - " ++
-    (decimal (length v - 1) ++ (codes ") = " ++ (literal_text (encode_utf8_all v) ++ codes "]")))))))))
+    (decimal (behind_first v) ++ (codes ") = " ++ (literal_text (encode_utf8_all v) ++ codes "]")))))))))
 
 abbrev pub substring_text : List ℕ → List ℕ → List ℕ
 substring_text attribute v =

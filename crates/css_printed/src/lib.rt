@@ -3,4 +3,4 @@
 
 mod laws;
 
-pub use laws::{literals_stand_for_texts, printed_texts_keep_meaning, worked_texts};
+pub use laws::{literals_stand_for_texts, printed_texts_keep_meaning, worked_texts, wrong_texts};

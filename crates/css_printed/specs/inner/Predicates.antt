@@ -1,5 +1,5 @@
 -- The predicates that the printed tests read as, of those tests that hold no selectors.
-use Rattle.std.specs.Prelude.{ℕ, ◌-◌, ◌||◌, if◌then◌else◌, List, [], ◌∷◌, ◌++◌, map, length, Option, Some, None, ℤ, pos, codes}
+use Rattle.std.specs.Prelude.{ℕ, ◌||◌, if◌then◌else◌, List, [], ◌∷◌, ◌++◌, map, Option, Some, None, ℤ, pos, codes}
 use Rattle.std.specs.Char.{to_ascii_lowercase}
 use Rattle.std.specs.List.{list_any}
 use Rattle.text_base.specs.Text.{is_space5}
@@ -29,6 +29,7 @@ use Rattle.xpath_parser.specs.declared.expression.Step.{Step, roll-Step}
 use Rattle.css_printed.specs.Conditions.{Condition, never, exactly, at_least, at_most, every, conditions}
 use Rattle.css_printed.specs.Literals.{Quoted, literal_parts}
 use Rattle.css_printed.specs.Names.{is_plain}
+use Rattle.css_printed.specs.Simples.{behind_first}
 
 -- ---- small words
 
@@ -117,7 +118,7 @@ abbrev pub suffix_predicate : Expr → List ℕ → Expr
 suffix_predicate at v =
     if is_empty v then number 0 else
     both at (equals
-    (e.Call f.Substring (at ∷ joins infix_of.Sub (e.Call f.StringLength (at ∷ [])) (number (length v - 1)) ∷ []))
+    (e.Call f.Substring (at ∷ joins infix_of.Sub (e.Call f.StringLength (at ∷ [])) (number (behind_first v)) ∷ []))
     (literal v))
 
 abbrev pub substring_predicate : Expr → List ℕ → Expr
