@@ -1,6 +1,7 @@
--- What selectors have that some text is read as, beside what is well made: each name has a character, and a negation is a choice
--- of its own. So it stands inside seven others at most, a choice in it counts as the greatest of what it offers, and one element
--- or simple selector in it is negated by itself.
+-- What is asked of selectors, beside that they are well made, so that their plain text is read as them: each name has a
+-- character, and a negation is a choice of its own. So it stands inside seven others at most, a choice in it counts as the
+-- greatest of what it offers, and one element or simple selector in it is negated by itself. That each list which a text is
+-- read as has this is not proved.
 use Rattle.std.specs.Prelude.{◌≡◌, ◌≢◌, ℕ, zero, suc, Bool, true, false, List, [], ◌∷◌, All, Option, Some, None}
 use Rattle.css_selectors.specs.declared.selector.Compound.{Compound, out-Compound}
 use Rattle.css_selectors.specs.declared.selector.Part.{Part, out-Part}
