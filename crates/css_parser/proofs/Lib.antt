@@ -33,3 +33,5 @@ pub mod TextPieces
 pub mod ValueFits
 pub mod ValueLemmas
 pub mod WellMadeLemmas
+mod WorkedRows
+mod WorkedTokens

@@ -1,3 +1,4 @@
+ghost use Rattle.css_parser.specs.Examples.{WorkedLists};
 ghost use Rattle.css_parser.specs.Laws.{HasListOrFault, HasNormalForm, HasOneReading, HasOneFault, HasTexts, IsListOrFault, IsReadAlike, IsWellMade, KeepsEnds};
 
 /// Each text is accepted as one list, which is well made, or has one fault, and not both. The names
@@ -24,4 +25,10 @@ pub fn choices_without_depth()
 /// name and string in escapes, and an empty comment after each token.
 pub fn normal_form()
     ensures { HasNormalForm }
+{}
+
+/// Some selectors as they are typed are accepted as these lists.
+#[tactic(auto, using(crate::proofs::WorkedRows::worked))]
+pub fn worked_lists()
+    ensures { WorkedLists }
 {}

@@ -19,5 +19,5 @@ mod refusals;
 mod simples;
 mod values;
 
-pub use laws::{choices_without_depth, normal_form, one_list_or_fault};
+pub use laws::{choices_without_depth, normal_form, one_list_or_fault, worked_lists};
 pub use parsing::parse_selectors;
