@@ -29,7 +29,7 @@ use Rattle.std.proofs.lemmas.List.Elements.{All-nil, All-cons, All-head}
 use Rattle.xpath_eval.proofs.Kept.{kept_from_same}
 use Rattle.xpath_eval.proofs.Lists.{has-reverse}
 
-or_none : (a : Bool) → (a || false) ≡ a
+pub or_none : (a : Bool) → (a || false) ≡ a
 or_none true = refl
 or_none false = refl
 
@@ -53,7 +53,7 @@ module _ (doc : Document) where
       ap (λ v. length (filter (λ y. has y v || false) (rows doc))) (plain_walk doc s x e)
       ∙ lone_length (length doc) (is_reverse (out-Step s).axis) _ (filter_run _ (length doc) 0 (length doc) (omega arith))
 
-  lone_path : (s : Step) (c : Context) → denote doc (Path Here (s ∷ [])) c ≡ Nodes (rows_in doc (c.row ∷ []) (walk_of doc s))
+  pub lone_path : (s : Step) (c : Context) → denote doc (Path Here (s ∷ [])) c ≡ Nodes (rows_in doc (c.row ∷ []) (walk_of doc s))
   lone_path s c = at_path doc Here (s ∷ []) c ∙ ap (λ v. Nodes (rows_in doc v (walk_of doc s))) (at_here doc c)
 
   -- the number of rows that a step gives

@@ -8,4 +8,5 @@ pub mod Gathers
 pub mod Kept
 pub mod Lists
 pub mod Placeless
+pub mod Sides
 pub mod Turns

@@ -20,6 +20,8 @@
 //! - Where it is only asked whether a path gives a row, as in a predicate, an operand of `or` or `and`, or the argument of
 //!   `not` there, the rows of all its steps but the last are found, and the last ends at the first row. Without predicates
 //!   it makes no list; otherwise the rows on its axis are listed from one context row after the other, and asked one by one.
+//! - Where it is only asked whether one comparison is true, and each side is a text or the attribute of the context row
+//!   with a name, it takes no memory.
 //! - A call of a stored test asks it once, on the string values of its two arguments.
 #![tactic(auto)]
 
@@ -32,6 +34,7 @@ mod forms;
 mod ordering;
 mod place;
 mod predicates;
+mod quick;
 mod step_rows;
 mod tests_of_rows;
 mod top;

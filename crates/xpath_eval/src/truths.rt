@@ -21,6 +21,7 @@ use crate::deep_steps::ends_below;
 use crate::evaluation::{first_steps, started, value_at, walk};
 use crate::forms::{axis_rows, is_not};
 use crate::place::{Place, alone};
+use crate::quick::compared;
 use crate::tests_of_rows::are_tests;
 use doc_model::{Axes, Axis};
 use std::alloc::Global;
@@ -51,6 +52,11 @@ pub fn is_true<S: Axes, Q: Asks>(
         Expr::Path(start, steps) => {
             let rows = started(alloc, source, start, place, tests)?;
             return finds(alloc, source, rows, steps.as_slice(), tests);
+        }
+        Expr::Joined(first, operands) => {
+            if let Some(truth) = compared(source, first.get(), operands.as_slice(), place) {
+                return Ok(truth);
+            }
         }
         Expr::Call(func, es) => {
             if is_not(*func) {

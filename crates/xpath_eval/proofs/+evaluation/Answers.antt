@@ -315,6 +315,9 @@ truths::is_true-returns-in-And = truths.is_true-returns-in-And
 pub truths::is_true-returns-in-Path : goal.truths::is_true-returns-in-Path
 truths::is_true-returns-in-Path = truths.is_true-returns-in-Path
 
+pub truths::is_true-returns-in-Some-compared : goal.truths::is_true-returns-in-Some-compared
+truths::is_true-returns-in-Some-compared = truths.is_true-returns-in-Some-compared
+
 pub truths::is_true-returns-then-is_not : goal.truths::is_true-returns-then-is_not
 truths::is_true-returns-then-is_not = truths.is_true-returns-then-is_not
 

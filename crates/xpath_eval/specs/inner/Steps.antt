@@ -1,5 +1,5 @@
 -- Expressions that are one step.
-use Rattle.std.specs.Prelude.{◌≡◌, List, [], ◌∷◌, ◌++◌, pos}
+use Rattle.std.specs.Prelude.{◌≡◌, ℕ, List, [], ◌∷◌, ◌++◌, pos}
 use Rattle.doc_model.specs.declared.Axis.TheVariants as axis
 use Rattle.doc_model.specs.declared.NodeTest.TheVariants as test
 use Rattle.xpath_parser.specs.declared.expression.Expr.{Expr}
@@ -46,3 +46,14 @@ pub record EndsBelow (ss : List Step) : Type 0 where
   pub all : ss ≡ before ++ first ∷ second ∷ []
   pub below : IsAllBelow first
   pub tested : IsTestedChild second
+
+-- a step to the attribute with a name
+pub record IsAttributeStep (s : Step) (n : List ℕ) : Type 0 where
+  pub axis : (out-Step s).axis ≡ axis.Attribute
+  pub test : (out-Step s).test ≡ test.Name n
+
+-- the expression is a path of that step alone, without predicates
+pub record IsAttributePath (e : Expr) (n : List ℕ) : Type 0 where
+  pub step : Step
+  pub path : IsLonePath e step
+  pub named : IsAttributeStep step n
