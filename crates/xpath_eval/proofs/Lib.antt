@@ -1,4 +1,5 @@
 pub mod Asks
+pub mod Between
 pub mod Counting
 pub mod Covering
 pub mod Deep
@@ -9,4 +10,6 @@ pub mod Kept
 pub mod Lists
 pub mod Placeless
 pub mod Sides
+pub mod Spaced
 pub mod Turns
+pub mod WordSteps

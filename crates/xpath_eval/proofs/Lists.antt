@@ -1,6 +1,6 @@
 -- Members, bounds and order of lists of rows.
 use Rattle.std.proofs.Common.{◌≡◌, refl, sym, ◌∙◌, ap, subst, ℕ, suc, ◌+◌, ◌<◌, ◌≤◌, Bool, true, false, ◌||◌, eqb, cond, List, [], ◌∷◌, ◌++◌, length, take, drop, get_or, arith, inl, inr, ◌⊎◌, Result, Ok, Err}
-use Rattle.std.specs.Prelude.{reverse, IfOk}
+use Rattle.std.specs.Prelude.{reverse, IfOk, IfSome, Option, Some, None}
 use Rattle.std.specs.List.{All, dedup, dedup_from}
 use Rattle.std.specs.List.Sorted.{IsStrictlyIncreasing}
 use Rattle.std.proofs.lemmas.Bool.Decides.{nat_tests}
@@ -128,6 +128,10 @@ take_at xs i x is h = take_more xs i x h ∙ ap (λ v. take i xs ++ v ∷ []) (s
 pub if_ok_from : {A E : Type 0} (r : Result A E) (P Q : A → Type 0) → ((v : A) → P v → Q v) → IfOk r P → IfOk r Q
 if_ok_from (Ok v) P Q f h = f v h
 if_ok_from (Err e) P Q f h = tt
+
+pub if_some_from : {A : Type 0} (r : Option A) (P Q : A → Type 0) → ((v : A) → P v → Q v) → IfSome r P → IfSome r Q
+if_some_from (Some v) P Q f h = f v h
+if_some_from None P Q f h = tt
 
 pub member_at : (xs : List ℕ) (i : ℕ) → i < length xs → has (get_or xs i 0) xs ≡ true
 member_at xs i h = list_any_at (λ x. eqb x (get_or xs i 0)) xs i 0 h (itself (get_or xs i 0))

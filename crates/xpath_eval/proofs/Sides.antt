@@ -1,9 +1,10 @@
 -- What a comparison sees of a value is enough to tell it.
-use Rattle.std.proofs.Common.{◌≡◌, refl, sym, ◌∙◌, ap, ℕ, Bool, true, false, ◌&&◌, ◌||◌, subst, List, [], ◌∷◌, length, arith}
-use Rattle.std.specs.Prelude.{filter}
+use Rattle.std.proofs.Common.{◌≡◌, refl, sym, ◌∙◌, ap, ℕ, suc, Bool, true, false, ◌&&◌, ◌||◌, subst, List, [], ◌∷◌, length, arith}
+use Rattle.std.specs.Prelude.{filter, nat_lt, is_some, Option, Some, None}
+use Rattle.std.specs.Option.{option_to_list}
 use Rattle.std.specs.List.{All, range_with_len}
 use Rattle.std.specs.Str.{bytes_eq}
-use Rattle.std.proofs.lemmas.Bool.{and_parts}
+use Rattle.std.proofs.lemmas.Bool.{and_parts, lt-ltb}
 use Rattle.std.proofs.lemmas.List.Elements.{All-head, filter_passes}
 use Rattle.doc_model.specs.declared.Axis.TheVariants as axis
 use Rattle.doc_model.specs.declared.Kind.{Kind}
@@ -105,14 +106,18 @@ module _ (doc : Document) where
   value_of_kind Text r h = cc
   value_of_kind Comment r h = cc
 
-  -- the one attribute is seen as its text
+  -- the string value of the one attribute is its text
+  pub attribute_value : (x y : ℕ) (name : List ℕ) → filter (is_attribute_of doc x name) (rows doc) ≡ y ∷ [] → string_value doc y ≡ (row doc y).text
+  attribute_value x y name h =
+      let all = subst (All (λ r. is_attribute_of doc x name r ≡ true)) h (filter_passes (is_attribute_of doc x name) (rows doc)) in
+      let own = All-head (λ r. is_attribute_of doc x name r ≡ true) y [] all in
+      value_of_kind (row doc y).kind y (and_parts (is_attribute doc y) _ own).0
+
+  -- it is seen as its text
   pub one_attribute : (x y : ℕ) (name : List ℕ) (text : List ℕ) → filter (is_attribute_of doc x name) (rows doc) ≡ y ∷ [] → text ≡ (row doc y).text
       → IsOne doc (Nodes (filter (is_attribute_of doc x name) (rows doc))) (chars text)
   one_attribute x y name text h is =
-      let all = subst (All (λ r. is_attribute_of doc x name r ≡ true)) h (filter_passes (is_attribute_of doc x name) (rows doc)) in
-      let own = All-head (λ r. is_attribute_of doc x name r ≡ true) y [] all in
-      subst (λ rs. IsOne doc (Nodes rs) (chars text)) (sym h)
-      (ap chars (value_of_kind (row doc y).kind y (and_parts (is_attribute doc y) _ own).0 ∙ sym is))
+      subst (λ rs. IsOne doc (Nodes rs) (chars text)) (sym h) (ap chars (attribute_value x y name h ∙ sym is))
 
   twice : (a p b : Bool) → ((a && p) && (a && b)) ≡ (a && (p && b))
   twice true p b = refl
@@ -123,6 +128,19 @@ module _ (doc : Document) where
 
   named_list : (x : ℕ) (name : List ℕ) → axis_list doc x axis.Attribute (test.Name name) ≡ filter (is_attribute_of doc x name) (rows doc)
   named_list x name = filter_same _ _ (rows doc) (λ y. twice (is_attribute doc y) (is_parent doc x y) (bytes_eq (row doc y).name name))
+
+  some_item : (o : Option ℕ) (xs : List ℕ) → xs ≡ option_to_list o → is_some o ≡ nat_lt 0 (length xs)
+  some_item None [] h = refl
+  some_item None (x ∷ xs) h = cc
+  some_item (Some y) [] h = cc
+  some_item (Some y) (x ∷ xs) h = sym (lt-ltb 0 (length (x ∷ xs)) (let long : length (x ∷ xs) ≡ suc (length xs) = refl in omega (arith, long)))
+
+  -- there is an attribute with the name where the step gives a row
+  pub attribute_any : (s : Step) (x : ℕ) (name : List ℕ) (o : Option ℕ) → IsAttributeStep s name → filter (is_attribute_of doc x name) (rows doc) ≡ option_to_list o
+      → is_some o ≡ nat_lt 0 (length (axis_list doc x (out-Step s).axis (out-Step s).test))
+  attribute_any s x name o is h =
+      some_item o (filter (is_attribute_of doc x name) (rows doc)) h
+      ∙ ap (λ v. nat_lt 0 (length v)) (sym (ap (λ a. axis_list doc x a (out-Step s).test) is.axis ∙ ap (axis_list doc x axis.Attribute) is.test ∙ named_list x name))
 
   walked : (s : Step) (x : ℕ) (name : List ℕ) → (out-Step s).predicates ≡ [] → IsAttributeStep s name → walk_of doc s x ≡ filter (is_attribute_of doc x name) (rows doc)
   walked s x name plain is =

@@ -4,3 +4,4 @@ pub mod Places
 pub mod Sides
 pub mod Steps
 pub mod Tests
+pub mod Words

@@ -20,8 +20,9 @@
 //! - Where it is only asked whether a path gives a row, as in a predicate, an operand of `or` or `and`, or the argument of
 //!   `not` there, the rows of all its steps but the last are found, and the last ends at the first row. Without predicates
 //!   it makes no list; otherwise the rows on its axis are listed from one context row after the other, and asked one by one.
-//! - Where it is only asked whether one comparison is true, and each side is a text or the attribute of the context row
-//!   with a name, it takes no memory.
+//! - Where it is only asked whether an expression is true, it takes no memory if that is one step without predicates, one
+//!   comparison of which each side is a text or an attribute of the context row by its name, or the test of one word of
+//!   such an attribute, as `contains(concat(' ', normalize-space(@class), ' '), ' w ')`. Such an attribute is looked up.
 //! - A call of a stored test asks it once, on the string values of its two arguments.
 #![tactic(auto)]
 
@@ -37,7 +38,9 @@ mod predicates;
 mod quick;
 mod step_rows;
 mod tests_of_rows;
+mod told;
 mod top;
 mod truths;
+mod words;
 
 pub use top::{eval, eval_with};

@@ -34,7 +34,7 @@ fn is_attribute_axis(axis: Axis) -> bool
 }
 
 /// The name that a step to an attribute asks for.
-fn step_name(step: &Step) -> Option<&str>
+pub fn step_name(step: &Step) -> Option<&str>
     ensures { IfSome result (λ n. IsAttributeStep step.now (chars n.now)) }
 {
     if !is_attribute_axis(step.axis) {
@@ -47,7 +47,7 @@ fn step_name(step: &Step) -> Option<&str>
 }
 
 /// The name of the attribute, where an expression is one step to it without predicates.
-fn attribute_name(e: &Expr) -> Option<&str>
+pub fn attribute_name(e: &Expr) -> Option<&str>
     ensures { IfSome result (λ n. IsAttributePath e.now (chars n.now)) }
 {
     match lone_path(e) {

@@ -16,13 +16,12 @@ ghost use Rattle.xpath_eval.specs.Rows.{AreRows};
 ghost use Rattle.xpath_eval.specs.inner.Tests.{passes_all};
 
 use crate::contexts::{covering, may_cover};
-use crate::counts::lone_path;
 use crate::deep_steps::ends_below;
 use crate::evaluation::{first_steps, started, value_at, walk};
 use crate::forms::{axis_rows, is_not};
 use crate::place::{Place, alone};
-use crate::quick::compared;
 use crate::tests_of_rows::are_tests;
+use crate::told::told;
 use doc_model::{Axes, Axis};
 use std::alloc::Global;
 use test_registry::Asks;
@@ -43,8 +42,8 @@ pub fn is_true<S: Axes, Q: Asks>(
     requires tests { AsksOnly (Q.kinds tests.now) e.now }
     ensures { IfOk result (λ b. b ≡ conversions.truth_of (spec.denote (S.document source.now) e.now (context place))) }
 {
-    if let Some(step) = lone_path(e) {
-        return Ok(source.axis_any(place.row, step.axis, &step.test));
+    if let Some(truth) = told(source, e, place) {
+        return Ok(truth);
     }
     match e {
         Expr::Or(es) => return any(alloc, source, es.as_slice(), place, tests),
@@ -52,11 +51,6 @@ pub fn is_true<S: Axes, Q: Asks>(
         Expr::Path(start, steps) => {
             let rows = started(alloc, source, start, place, tests)?;
             return finds(alloc, source, rows, steps.as_slice(), tests);
-        }
-        Expr::Joined(first, operands) => {
-            if let Some(truth) = compared(source, first.get(), operands.as_slice(), place) {
-                return Ok(truth);
-            }
         }
         Expr::Call(func, es) => {
             if is_not(*func) {

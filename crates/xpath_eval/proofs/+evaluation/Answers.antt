@@ -174,11 +174,6 @@ predicates::kept-returns-in-Number g t c =
 pub evaluation::value_at-returns-in-Some-clause-value : goal.evaluation::value_at-returns-in-Some-clause-value
 evaluation::value_at-returns-in-Some-clause-value = forms.value_at-returns-in-Some-clause-value
 
-pub truths::is_true-returns-in-Some : goal.truths::is_true-returns-in-Some
-truths::is_true-returns-in-Some g t c =
-    let doc = g.S.Tree.document c.args.source.now in
-    c.axis_any.ensures ∙ counting.held doc c.args.e.now c.in-Some.step.now (context c.args.place) c.in-Some.ensures
-
 -- ---- the parts ask no more than the whole
 
 pub truths::all-is_true-requires : goal.truths::all-is_true-requires
@@ -314,9 +309,6 @@ truths::is_true-returns-in-And = truths.is_true-returns-in-And
 
 pub truths::is_true-returns-in-Path : goal.truths::is_true-returns-in-Path
 truths::is_true-returns-in-Path = truths.is_true-returns-in-Path
-
-pub truths::is_true-returns-in-Some-compared : goal.truths::is_true-returns-in-Some-compared
-truths::is_true-returns-in-Some-compared = truths.is_true-returns-in-Some-compared
 
 pub truths::is_true-returns-then-is_not : goal.truths::is_true-returns-then-is_not
 truths::is_true-returns-then-is_not = truths.is_true-returns-then-is_not

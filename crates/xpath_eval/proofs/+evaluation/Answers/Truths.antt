@@ -9,8 +9,6 @@ use Rattle.xpath_values.specs.declared.value.Value.{Value}
 use Rattle.xpath_values.specs.declared.value.Value.TheVariants.{Bool as Truth}
 use Rattle.xpath_parser.specs.declared.expression.Expr.{Expr}
 use Rattle.xpath_parser.specs.declared.expression.Func.TheVariants as f
-use Rattle.xpath_parser.specs.declared.expression.Infix.{Infix}
-use Rattle.xpath_parser.specs.declared.expression.Operand.{Operand}
 use Rattle.xpath_parser.specs.declared.expression.Step.{out-Step}
 use Rattle.xpath_parser.specs.Conversions as conversions
 use Rattle.xpath_parser.specs.Functions.{called}
@@ -55,16 +53,6 @@ is_true-returns-in-Path g t c =
     ∙ ap (λ ss. conversions.is_any (spec.path doc (spec.start_of doc c.in-Path.start at) (map (spec.walk_of doc) ss))) c.as_slice-in-Path.ensures
     ∙ ap conversions.truth_of (sym (eqs.at_path doc c.in-Path.start c.in-Path.steps at) ∙ sym (ap (λ x. spec.denote doc x at) c.in-Path.is)))
     c.finds.ensures
-
-pub is_true-returns-in-Some-compared : goal.truths::is_true-returns-in-Some-compared
-is_true-returns-in-Some-compared g t c =
-    let doc = g.S.Tree.document c.args.source.now in
-    let at = context c.args.place in
-    let arms : List Operand → List (Infix × Value) = map (λ o. spec.arm_at doc o at) in
-    ap conversions.truth_of (sym c.in-Some-compared.ensures
-    ∙ ap (λ v. spec.joined doc (spec.denote doc c.get.result.now at) (arms v)) c.as_slice-in-Joined.ensures
-    ∙ ap (λ x. spec.joined doc (spec.denote doc x at) (arms c.in-Joined.operands)) c.get.ensures
-    ∙ sym (eqs.at_joined doc c.in-Joined.first c.in-Joined.operands at) ∙ sym (ap (λ x. spec.denote doc x at) c.in-Joined.is))
 
 pub is_true-returns-then-is_not : goal.truths::is_true-returns-then-is_not
 is_true-returns-then-is_not g t c =
