@@ -21,8 +21,10 @@
 //!   `not` there, the rows of all its steps but the last are found, and the last ends at the first row. Without predicates
 //!   it makes no list; otherwise the rows on its axis are listed from one context row after the other, and asked one by one.
 //! - Where it is only asked whether an expression is true, it takes no memory if that is one step without predicates, one
-//!   comparison of which each side is a text or an attribute of the context row by its name, or the test of one word of
-//!   such an attribute, as `contains(concat(' ', normalize-space(@class), ' '), ' w ')`. Such an attribute is looked up.
+//!   comparison, or the test of one word of an attribute of the context row, as
+//!   `contains(concat(' ', normalize-space(@class), ' '), ' w ')`; the sides of the comparison are texts, attributes of the
+//!   context row by their names, numbers that are written out, counts of one step without predicates, and sums,
+//!   differences, products and remainders of these numbers. Such an attribute is looked up.
 //! - A call of a stored test asks it once, on the string values of its two arguments.
 #![tactic(auto)]
 
@@ -34,6 +36,7 @@ mod evaluation;
 mod forms;
 mod ordering;
 mod place;
+mod plain_numbers;
 mod predicates;
 mod quick;
 mod step_rows;

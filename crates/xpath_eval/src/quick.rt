@@ -14,6 +14,7 @@ ghost use Rattle.xpath_eval.specs.inner.Steps.{IsAttributePath, IsAttributeStep}
 
 use crate::counts::lone_path;
 use crate::place::Place;
+use crate::plain_numbers::number_at;
 use doc_model::{Axes, Axis, NodeTest, attribute_named};
 use xpath_parser::{Expr, Infix, Operand, Step};
 use xpath_values::{Atom, Compare, compare_atoms};
@@ -67,7 +68,8 @@ fn attribute_side<'a, S: Axes>(source: &'a S, x: u32, name: &str) -> Side<'a>
     }
 }
 
-/// What a comparison sees of an expression, where it is a text or one step to an attribute.
+/// What a comparison sees of an expression, where it is a text, one step to an attribute or a number that is told with no
+/// memory.
 fn side_of<'a, S: Axes>(source: &'a S, e: &'a Expr, place: Place) -> Option<Side<'a>>
     requires { place.row < length (S.document source.now) }
     ensures { IfSome result (λ s. IsSide (S.document source.now) (spec.denote (S.document source.now) e.now (context place)) s) }
@@ -77,7 +79,10 @@ fn side_of<'a, S: Axes>(source: &'a S, e: &'a Expr, place: Place) -> Option<Side
     }
     match e {
         Expr::Literal(text) => Some(Side::One(Atom::Str(text.as_str()))),
-        _ => None,
+        _ => match number_at(source, e, place) {
+            Some(number) => Some(Side::One(Atom::Num(number))),
+            None => None,
+        },
     }
 }
 

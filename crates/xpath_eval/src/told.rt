@@ -24,8 +24,8 @@ fn gives_any<S: Axes>(source: &S, x: u32, step: &Step) -> bool
     }
 }
 
-/// Whether an expression is true at a place: one step without predicates, one comparison of texts and attributes of the
-/// row, and the test of one word of an attribute of the row.
+/// Whether an expression is true at a place, where it is one step without predicates, one comparison of texts, numbers and
+/// attributes of the row, or the test of one word of an attribute of the row.
 pub fn told<S: Axes>(source: &S, e: &Expr, place: Place) -> Option<bool>
     requires { place.row < length (S.document source.now) }
     ensures { IfSome result (λ b. b ≡ conversions.truth_of (spec.denote (S.document source.now) e.now (context place))) }

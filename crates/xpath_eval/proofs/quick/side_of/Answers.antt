@@ -1,4 +1,4 @@
-use Rattle.std.proofs.Common.{sym, ◌∙◌, ap, subst}
+use Rattle.std.proofs.Common.{sym, ◌∙◌, ap, subst, refl}
 use Rattle.std.specs.Str.{chars}
 use Rattle.xpath_values.specs.declared.value.Value.{Value}
 use Rattle.xpath_values.specs.Compares as plain
@@ -21,3 +21,8 @@ returns-in-Literal g c =
     subst (λ (v : Value). IsOne doc v (plain.chars (chars c.as_str.result.now)))
     (sym (eqs.at_literal doc c.in-Literal.text at) ∙ sym (ap (λ x. spec.denote doc x at) c.in-Literal.is))
     (ap plain.chars (sym c.as_str.ensures.chars))
+
+pub returns-in-Some-number_at : goal.returns-in-Some-number_at
+returns-in-Some-number_at g c =
+    let doc = g.S.Tree.document c.args.source.now in
+    subst (λ (v : Value). IsOne doc v (plain.num c.in-Some-number_at.number)) (sym c.in-Some-number_at.ensures) refl
