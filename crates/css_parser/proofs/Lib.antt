@@ -33,5 +33,6 @@ pub mod TextPieces
 pub mod ValueFits
 pub mod ValueLemmas
 pub mod WellMadeLemmas
+mod WorkedChoices
 mod WorkedRows
 mod WorkedTokens

@@ -39,7 +39,8 @@ use Rattle.css_selectors.specs.declared.selector.Simple.{Simple}
 use Rattle.css_selectors.specs.declared.selector.Tail.{Tail}
 use Rattle.css_parser.specs.declared.pieces.Word.{Word}
 use Rattle.css_parser.specs.Values.{FormValue, form_simples, member_value, choice_value, simple_of, test_of}
-use Rattle.css_parser.proofs.WorkedTokens.{next_tokens, next_lexes, nested_tokens, nested_lexes, later_tokens, later_lexes, begun_tokens, begun_lexes, places_tokens, places_lexes, ticked_tokens, ticked_lexes, denied_tokens, denied_lexes, either_tokens, either_lexes, ahead_tokens, ahead_lexes}
+use Rattle.css_parser.proofs.WorkedChoices.{denied_tokens, denied_lexes, either_tokens, either_lexes, ahead_tokens, ahead_lexes}
+use Rattle.css_parser.proofs.WorkedTokens.{next_tokens, next_lexes, nested_tokens, nested_lexes, later_tokens, later_lexes, begun_tokens, begun_lexes, places_tokens, places_lexes, ticked_tokens, ticked_lexes}
 
 abbrev compound : Link → List ℕ → List Form → Compound
 compound l n forms = record { link = l; element = Some n; prefixed = false; forms = forms }
@@ -78,8 +79,11 @@ nested_found = (compound link.First (codes "UL") [] ∷ compound link.Child (cod
 
 nested_reads : Reads (codes "UL > li a, b") nested_tokens nested_found
 unfolding code_at value_at skip element combinator lib.Utf8.encode
-nested_reads = (7, (1, refl, record { begins = (refl, refl); simples = refl }, (4, 5, refl, record { begins = (refl, refl); simples = refl }, (6, 7, refl, record { begins = (refl, refl); simples = refl }, refl))),
-    (10, refl, (10, refl, record { begins = (refl, refl); simples = refl }, refl), refl))
+nested_reads = (
+  7,
+  (1, refl, record { begins = (refl, refl); simples = refl }, (4, 5, refl, record { begins = (refl, refl); simples = refl }, (6, 7, refl, record { begins = (refl, refl); simples = refl }, refl))),
+  (10, refl, (10, refl, record { begins = (refl, refl); simples = refl }, refl), refl),
+)
 
 nested_row : is_read (codes "UL > li a, b") (selector (part link.First (Some (codes "UL")) [] ∷ part link.Child (Some (codes "li")) [] ∷ part link.Descendant (Some (codes "a")) [] ∷ []) tail.Element ∷ single (Some (codes "b")) [] ∷ [])
 nested_row = record { tokens = nested_tokens; spelled = nested_lexes; found = nested_found; reads = nested_reads; allowed = refl; is_list = refl }

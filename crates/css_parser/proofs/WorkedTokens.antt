@@ -13,13 +13,27 @@ pub next_lexes : Lexes (codes "h1 + p") next_tokens
 unfolding chars
 next_lexes = record {
   fits = omega arith;
-  spelled =
-      (([], (refl, refl)), (token kind.Ident 0 2 (codes "h1"), (2, codes "h1", record { places = 0 ∷ []; steps = (refl, omega arith, (refl, refl)); spelled = refl }, refl), refl),
-      (([], (refl, refl)), refl,
-      (([], (refl, refl)), refl,
-      (([], (refl, refl)), refl,
-      (([], (refl, refl)), (token kind.Ident 5 6 (codes "p"), (6, codes "p", record { places = 5 ∷ []; steps = (refl, omega arith, (refl, refl)); spelled = refl }, refl), refl),
-      ([], (refl, refl)))))));
+  spelled = (
+    ([], (refl, refl)),
+    (token kind.Ident 0 2 (codes "h1"), (2, codes "h1", record { places = 0 ∷ []; steps = (refl, omega arith, (refl, refl)); spelled = refl }, refl), refl),
+    (
+      ([], (refl, refl)),
+      refl,
+      (
+        ([], (refl, refl)),
+        refl,
+        (
+          ([], (refl, refl)),
+          refl,
+          (
+            ([], (refl, refl)),
+            (token kind.Ident 5 6 (codes "p"), (6, codes "p", record { places = 5 ∷ []; steps = (refl, omega arith, (refl, refl)); spelled = refl }, refl), refl),
+            ([], (refl, refl)),
+          ),
+        ),
+      ),
+    ),
+  );
 }
 
 -- UL > li a, b
@@ -30,18 +44,47 @@ pub nested_lexes : Lexes (codes "UL > li a, b") nested_tokens
 unfolding chars
 nested_lexes = record {
   fits = omega arith;
-  spelled =
-      (([], (refl, refl)), (token kind.Ident 0 2 (codes "UL"), (2, codes "UL", record { places = 0 ∷ []; steps = (refl, omega arith, (refl, refl)); spelled = refl }, refl), refl),
-      (([], (refl, refl)), refl,
-      (([], (refl, refl)), refl,
-      (([], (refl, refl)), refl,
-      (([], (refl, refl)), (token kind.Ident 5 7 (codes "li"), (7, codes "li", record { places = 5 ∷ []; steps = (refl, omega arith, (refl, refl)); spelled = refl }, refl), refl),
-      (([], (refl, refl)), refl,
-      (([], (refl, refl)), (token kind.Ident 8 9 (codes "a"), (9, codes "a", record { places = 8 ∷ []; steps = (refl, omega arith, (refl, refl)); spelled = refl }, refl), refl),
-      (([], (refl, refl)), refl,
-      (([], (refl, refl)), refl,
-      (([], (refl, refl)), (token kind.Ident 11 12 (codes "b"), (12, codes "b", record { places = 11 ∷ []; steps = (refl, omega arith, (refl, refl)); spelled = refl }, refl), refl),
-      ([], (refl, refl))))))))))));
+  spelled = (
+    ([], (refl, refl)),
+    (token kind.Ident 0 2 (codes "UL"), (2, codes "UL", record { places = 0 ∷ []; steps = (refl, omega arith, (refl, refl)); spelled = refl }, refl), refl),
+    (
+      ([], (refl, refl)),
+      refl,
+      (
+        ([], (refl, refl)),
+        refl,
+        (
+          ([], (refl, refl)),
+          refl,
+          (
+            ([], (refl, refl)),
+            (token kind.Ident 5 7 (codes "li"), (7, codes "li", record { places = 5 ∷ []; steps = (refl, omega arith, (refl, refl)); spelled = refl }, refl), refl),
+            (
+              ([], (refl, refl)),
+              refl,
+              (
+                ([], (refl, refl)),
+                (token kind.Ident 8 9 (codes "a"), (9, codes "a", record { places = 8 ∷ []; steps = (refl, omega arith, (refl, refl)); spelled = refl }, refl), refl),
+                (
+                  ([], (refl, refl)),
+                  refl,
+                  (
+                    ([], (refl, refl)),
+                    refl,
+                    (
+                      ([], (refl, refl)),
+                      (token kind.Ident 11 12 (codes "b"), (12, codes "b", record { places = 11 ∷ []; steps = (refl, omega arith, (refl, refl)); spelled = refl }, refl), refl),
+                      ([], (refl, refl)),
+                    ),
+                  ),
+                ),
+              ),
+            ),
+          ),
+        ),
+      ),
+    ),
+  );
 }
 
 -- h1 ~ p#x.y::text
@@ -52,18 +95,47 @@ pub later_lexes : Lexes (codes "h1 ~ p#x.y::text") later_tokens
 unfolding chars
 later_lexes = record {
   fits = omega arith;
-  spelled =
-      (([], (refl, refl)), (token kind.Ident 0 2 (codes "h1"), (2, codes "h1", record { places = 0 ∷ []; steps = (refl, omega arith, (refl, refl)); spelled = refl }, refl), refl),
-      (([], (refl, refl)), refl,
-      (([], (refl, refl)), refl,
-      (([], (refl, refl)), refl,
-      (([], (refl, refl)), (token kind.Ident 5 6 (codes "p"), (6, codes "p", record { places = 5 ∷ []; steps = (refl, omega arith, (refl, refl)); spelled = refl }, refl), refl),
-      (([], (refl, refl)), (8, codes "x", record { places = 7 ∷ []; steps = (refl, omega arith, (refl, refl)); spelled = refl }, refl),
-      (([], (refl, refl)), refl,
-      (([], (refl, refl)), (token kind.Ident 9 10 (codes "y"), (10, codes "y", record { places = 9 ∷ []; steps = (refl, omega arith, (refl, refl)); spelled = refl }, refl), refl),
-      (([], (refl, refl)), refl,
-      (([], (refl, refl)), (token kind.Ident 12 16 (codes "text"), (16, codes "text", record { places = 12 ∷ []; steps = (refl, omega arith, (refl, refl)); spelled = refl }, refl), refl),
-      ([], (refl, refl))))))))))));
+  spelled = (
+    ([], (refl, refl)),
+    (token kind.Ident 0 2 (codes "h1"), (2, codes "h1", record { places = 0 ∷ []; steps = (refl, omega arith, (refl, refl)); spelled = refl }, refl), refl),
+    (
+      ([], (refl, refl)),
+      refl,
+      (
+        ([], (refl, refl)),
+        refl,
+        (
+          ([], (refl, refl)),
+          refl,
+          (
+            ([], (refl, refl)),
+            (token kind.Ident 5 6 (codes "p"), (6, codes "p", record { places = 5 ∷ []; steps = (refl, omega arith, (refl, refl)); spelled = refl }, refl), refl),
+            (
+              ([], (refl, refl)),
+              (8, codes "x", record { places = 7 ∷ []; steps = (refl, omega arith, (refl, refl)); spelled = refl }, refl),
+              (
+                ([], (refl, refl)),
+                refl,
+                (
+                  ([], (refl, refl)),
+                  (token kind.Ident 9 10 (codes "y"), (10, codes "y", record { places = 9 ∷ []; steps = (refl, omega arith, (refl, refl)); spelled = refl }, refl), refl),
+                  (
+                    ([], (refl, refl)),
+                    refl,
+                    (
+                      ([], (refl, refl)),
+                      (token kind.Ident 12 16 (codes "text"), (16, codes "text", record { places = 12 ∷ []; steps = (refl, omega arith, (refl, refl)); spelled = refl }, refl), refl),
+                      ([], (refl, refl)),
+                    ),
+                  ),
+                ),
+              ),
+            ),
+          ),
+        ),
+      ),
+    ),
+  );
 }
 
 -- a[href^='/p/']::attr(href)
@@ -74,18 +146,47 @@ pub begun_lexes : Lexes (codes "a[href^='/p/']::attr(href)") begun_tokens
 unfolding chars
 begun_lexes = record {
   fits = omega arith;
-  spelled =
-      (([], (refl, refl)), (token kind.Ident 0 1 (codes "a"), (1, codes "a", record { places = 0 ∷ []; steps = (refl, omega arith, (refl, refl)); spelled = refl }, refl), refl),
-      (([], (refl, refl)), refl,
-      (([], (refl, refl)), (token kind.Ident 2 6 (codes "href"), (6, codes "href", record { places = 2 ∷ []; steps = (refl, omega arith, (refl, refl)); spelled = refl }, refl), refl),
-      (([], (refl, refl)), refl,
-      (([], (refl, refl)), (12, codes "/p/", record { places = 9 ∷ []; steps = (refl, omega arith, (refl, refl)); spelled = refl }, refl),
-      (([], (refl, refl)), refl,
-      (([], (refl, refl)), refl,
-      (([], (refl, refl)), (token kind.Function 16 21 (codes "attr"), (20, codes "attr", record { places = 16 ∷ []; steps = (refl, omega arith, (refl, refl)); spelled = refl }, refl), refl),
-      (([], (refl, refl)), (token kind.Ident 21 25 (codes "href"), (25, codes "href", record { places = 21 ∷ []; steps = (refl, omega arith, (refl, refl)); spelled = refl }, refl), refl),
-      (([], (refl, refl)), refl,
-      ([], (refl, refl))))))))))));
+  spelled = (
+    ([], (refl, refl)),
+    (token kind.Ident 0 1 (codes "a"), (1, codes "a", record { places = 0 ∷ []; steps = (refl, omega arith, (refl, refl)); spelled = refl }, refl), refl),
+    (
+      ([], (refl, refl)),
+      refl,
+      (
+        ([], (refl, refl)),
+        (token kind.Ident 2 6 (codes "href"), (6, codes "href", record { places = 2 ∷ []; steps = (refl, omega arith, (refl, refl)); spelled = refl }, refl), refl),
+        (
+          ([], (refl, refl)),
+          refl,
+          (
+            ([], (refl, refl)),
+            (12, codes "/p/", record { places = 9 ∷ []; steps = (refl, omega arith, (refl, refl)); spelled = refl }, refl),
+            (
+              ([], (refl, refl)),
+              refl,
+              (
+                ([], (refl, refl)),
+                refl,
+                (
+                  ([], (refl, refl)),
+                  (token kind.Function 16 21 (codes "attr"), (20, codes "attr", record { places = 16 ∷ []; steps = (refl, omega arith, (refl, refl)); spelled = refl }, refl), refl),
+                  (
+                    ([], (refl, refl)),
+                    (token kind.Ident 21 25 (codes "href"), (25, codes "href", record { places = 21 ∷ []; steps = (refl, omega arith, (refl, refl)); spelled = refl }, refl), refl),
+                    (
+                      ([], (refl, refl)),
+                      refl,
+                      ([], (refl, refl)),
+                    ),
+                  ),
+                ),
+              ),
+            ),
+          ),
+        ),
+      ),
+    ),
+  );
 }
 
 -- li:nth-child(-n+3)
@@ -96,15 +197,35 @@ pub places_lexes : Lexes (codes "li:nth-child(-n+3)") places_tokens
 unfolding chars
 places_lexes = record {
   fits = omega arith;
-  spelled =
-      (([], (refl, refl)), (token kind.Ident 0 2 (codes "li"), (2, codes "li", record { places = 0 ∷ []; steps = (refl, omega arith, (refl, refl)); spelled = refl }, refl), refl),
-      (([], (refl, refl)), refl,
-      (([], (refl, refl)), (token kind.Function 3 13 (codes "nth-child"), (12, codes "nth-child", record { places = 3 ∷ []; steps = (refl, omega arith, (refl, refl)); spelled = refl }, refl), refl),
-      (([], (refl, refl)), (token kind.Ident 13 15 (codes "-n"), (15, codes "-n", record { places = 13 ∷ []; steps = (refl, omega arith, (refl, refl)); spelled = refl }, refl), refl),
-      (([], (refl, refl)), refl,
-      (([], (refl, refl)), refl,
-      (([], (refl, refl)), refl,
-      ([], (refl, refl)))))))));
+  spelled = (
+    ([], (refl, refl)),
+    (token kind.Ident 0 2 (codes "li"), (2, codes "li", record { places = 0 ∷ []; steps = (refl, omega arith, (refl, refl)); spelled = refl }, refl), refl),
+    (
+      ([], (refl, refl)),
+      refl,
+      (
+        ([], (refl, refl)),
+        (token kind.Function 3 13 (codes "nth-child"), (12, codes "nth-child", record { places = 3 ∷ []; steps = (refl, omega arith, (refl, refl)); spelled = refl }, refl), refl),
+        (
+          ([], (refl, refl)),
+          (token kind.Ident 13 15 (codes "-n"), (15, codes "-n", record { places = 13 ∷ []; steps = (refl, omega arith, (refl, refl)); spelled = refl }, refl), refl),
+          (
+            ([], (refl, refl)),
+            refl,
+            (
+              ([], (refl, refl)),
+              refl,
+              (
+                ([], (refl, refl)),
+                refl,
+                ([], (refl, refl)),
+              ),
+            ),
+          ),
+        ),
+      ),
+    ),
+  );
 }
 
 -- input:checked
@@ -115,75 +236,17 @@ pub ticked_lexes : Lexes (codes "input:checked") ticked_tokens
 unfolding chars
 ticked_lexes = record {
   fits = omega arith;
-  spelled =
-      (([], (refl, refl)), (token kind.Ident 0 5 (codes "input"), (5, codes "input", record { places = 0 ∷ []; steps = (refl, omega arith, (refl, refl)); spelled = refl }, refl), refl),
-      (([], (refl, refl)), refl,
-      (([], (refl, refl)), (token kind.Ident 6 13 (codes "checked"), (13, codes "checked", record { places = 6 ∷ []; steps = (refl, omega arith, (refl, refl)); spelled = refl }, refl), refl),
-      ([], (refl, refl)))));
-}
-
--- p:not(.note)
-abbrev pub denied_tokens : List CssToken
-denied_tokens = token kind.Ident 0 1 (codes "p") ∷ token kind.Colon 1 2 [] ∷ token kind.Function 2 6 (codes "not") ∷ token kind.Dot 6 7 [] ∷ token kind.Ident 7 11 (codes "note") ∷ token kind.CloseRound 11 12 [] ∷ []
-
-pub denied_lexes : Lexes (codes "p:not(.note)") denied_tokens
-unfolding chars
-denied_lexes = record {
-  fits = omega arith;
-  spelled =
-      (([], (refl, refl)), (token kind.Ident 0 1 (codes "p"), (1, codes "p", record { places = 0 ∷ []; steps = (refl, omega arith, (refl, refl)); spelled = refl }, refl), refl),
-      (([], (refl, refl)), refl,
-      (([], (refl, refl)), (token kind.Function 2 6 (codes "not"), (5, codes "not", record { places = 2 ∷ []; steps = (refl, omega arith, (refl, refl)); spelled = refl }, refl), refl),
-      (([], (refl, refl)), refl,
-      (([], (refl, refl)), (token kind.Ident 7 11 (codes "note"), (11, codes "note", record { places = 7 ∷ []; steps = (refl, omega arith, (refl, refl)); spelled = refl }, refl), refl),
-      (([], (refl, refl)), refl,
-      ([], (refl, refl))))))));
-}
-
--- :is(h1, h2) > a
-abbrev pub either_tokens : List CssToken
-either_tokens = token kind.Colon 0 1 [] ∷ token kind.Function 1 4 (codes "is") ∷ token kind.Ident 4 6 (codes "h1") ∷ token kind.Comma 6 7 [] ∷ token kind.Space 7 8 [] ∷ token kind.Ident 8 10 (codes "h2") ∷ token kind.CloseRound 10 11 [] ∷ token kind.Space 11 12 [] ∷ token kind.Greater 12 13 [] ∷ token kind.Space 13 14 [] ∷ token kind.Ident 14 15 (codes "a") ∷ []
-
-pub either_lexes : Lexes (codes ":is(h1, h2) > a") either_tokens
-unfolding chars
-either_lexes = record {
-  fits = omega arith;
-  spelled =
-      (([], (refl, refl)), refl,
-      (([], (refl, refl)), (token kind.Function 1 4 (codes "is"), (3, codes "is", record { places = 1 ∷ []; steps = (refl, omega arith, (refl, refl)); spelled = refl }, refl), refl),
-      (([], (refl, refl)), (token kind.Ident 4 6 (codes "h1"), (6, codes "h1", record { places = 4 ∷ []; steps = (refl, omega arith, (refl, refl)); spelled = refl }, refl), refl),
-      (([], (refl, refl)), refl,
-      (([], (refl, refl)), refl,
-      (([], (refl, refl)), (token kind.Ident 8 10 (codes "h2"), (10, codes "h2", record { places = 8 ∷ []; steps = (refl, omega arith, (refl, refl)); spelled = refl }, refl), refl),
-      (([], (refl, refl)), refl,
-      (([], (refl, refl)), refl,
-      (([], (refl, refl)), refl,
-      (([], (refl, refl)), refl,
-      (([], (refl, refl)), (token kind.Ident 14 15 (codes "a"), (15, codes "a", record { places = 14 ∷ []; steps = (refl, omega arith, (refl, refl)); spelled = refl }, refl), refl),
-      ([], (refl, refl)))))))))))));
-}
-
--- ul:has(> li.x + li)
-abbrev pub ahead_tokens : List CssToken
-ahead_tokens = token kind.Ident 0 2 (codes "ul") ∷ token kind.Colon 2 3 [] ∷ token kind.Function 3 7 (codes "has") ∷ token kind.Greater 7 8 [] ∷ token kind.Space 8 9 [] ∷ token kind.Ident 9 11 (codes "li") ∷ token kind.Dot 11 12 [] ∷ token kind.Ident 12 13 (codes "x") ∷ token kind.Space 13 14 [] ∷ token kind.Plus 14 15 [] ∷ token kind.Space 15 16 [] ∷ token kind.Ident 16 18 (codes "li") ∷ token kind.CloseRound 18 19 [] ∷ []
-
-pub ahead_lexes : Lexes (codes "ul:has(> li.x + li)") ahead_tokens
-unfolding chars
-ahead_lexes = record {
-  fits = omega arith;
-  spelled =
-      (([], (refl, refl)), (token kind.Ident 0 2 (codes "ul"), (2, codes "ul", record { places = 0 ∷ []; steps = (refl, omega arith, (refl, refl)); spelled = refl }, refl), refl),
-      (([], (refl, refl)), refl,
-      (([], (refl, refl)), (token kind.Function 3 7 (codes "has"), (6, codes "has", record { places = 3 ∷ []; steps = (refl, omega arith, (refl, refl)); spelled = refl }, refl), refl),
-      (([], (refl, refl)), refl,
-      (([], (refl, refl)), refl,
-      (([], (refl, refl)), (token kind.Ident 9 11 (codes "li"), (11, codes "li", record { places = 9 ∷ []; steps = (refl, omega arith, (refl, refl)); spelled = refl }, refl), refl),
-      (([], (refl, refl)), refl,
-      (([], (refl, refl)), (token kind.Ident 12 13 (codes "x"), (13, codes "x", record { places = 12 ∷ []; steps = (refl, omega arith, (refl, refl)); spelled = refl }, refl), refl),
-      (([], (refl, refl)), refl,
-      (([], (refl, refl)), refl,
-      (([], (refl, refl)), refl,
-      (([], (refl, refl)), (token kind.Ident 16 18 (codes "li"), (18, codes "li", record { places = 16 ∷ []; steps = (refl, omega arith, (refl, refl)); spelled = refl }, refl), refl),
-      (([], (refl, refl)), refl,
-      ([], (refl, refl)))))))))))))));
+  spelled = (
+    ([], (refl, refl)),
+    (token kind.Ident 0 5 (codes "input"), (5, codes "input", record { places = 0 ∷ []; steps = (refl, omega arith, (refl, refl)); spelled = refl }, refl), refl),
+    (
+      ([], (refl, refl)),
+      refl,
+      (
+        ([], (refl, refl)),
+        (token kind.Ident 6 13 (codes "checked"), (13, codes "checked", record { places = 6 ∷ []; steps = (refl, omega arith, (refl, refl)); spelled = refl }, refl), refl),
+        ([], (refl, refl)),
+      ),
+    ),
+  );
 }
