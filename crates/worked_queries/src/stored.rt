@@ -3,8 +3,9 @@ use crate::evaluation::{PAGE, shown};
 use doc_model::{Axes, Plain};
 use std::alloc::Global;
 use std::test::Fail;
-use test_registry::{AddFault, TestKind, Tests, ends_with, has_word, near, same_folded};
+use test_registry::{AddFault, TestKind, Tests, same_folded};
 use text_base::NoMemory;
+use worked_tests::{STORED, answer};
 use worked_trees::tree_of;
 use xpath_eval::eval_with;
 use xpath_parser::parse_xpath_with;
@@ -39,24 +40,13 @@ fn asks_stored_tests(rt: HostRuntime) -> Result<(), Fail> {
     let alloc = rt.alloc();
     let page = Plain::new(tree_of(alloc, &PAGE[..]).expect(&rt, "memory"));
     let mut tests = Tests::new(alloc);
-    let test: Box<dyn Fn(&str, &str) -> bool> = Box::new(
-        alloc,
-        |a: &str, b: &str| same_folded(a, b),
-    )?;
-    assert!(rt; tests.add("same", TestKind::SameFolded, test).is_ok());
-    let test: Box<dyn Fn(&str, &str) -> bool> = Box::new(
-        alloc,
-        |a: &str, b: &str| ends_with(a, b),
-    )?;
-    assert!(rt; tests.add("ends-with", TestKind::EndsWith, test).is_ok());
-    let test: Box<dyn Fn(&str, &str) -> bool> = Box::new(alloc, |a: &str, b: &str| has_word(a, b))?;
-    assert!(rt; tests.add("has-word", TestKind::HasWord, test).is_ok());
-    let most = 100u32;
-    let test: Box<dyn Fn(&str, &str) -> bool> = Box::new(
-        alloc,
-        move |a: &str, b: &str| near(most, a, b),
-    )?;
-    assert!(rt; tests.add("near", TestKind::Near(most), test).is_ok());
+    for (name, kind) in STORED {
+        let test: Box<dyn Fn(&str, &str) -> bool> = Box::new(
+            alloc,
+            move |a: &str, b: &str| answer(kind, a, b),
+        )?;
+        assert!(rt; tests.add(name, kind, test).is_ok());
+    }
     for (name, a, b, want) in [
         ("same", "AbC", "aBc", Some(true)),
         ("same", "é", "É", Some(false)),

@@ -4,12 +4,13 @@ use extract_call::{Status, extract_with};
 use io_edges::SurePages;
 use std::alloc::Global;
 use std::test::Fail;
-use test_registry::{TestKind, Tests, ends_with, has_word, near, same_folded};
+use test_registry::Tests;
 use text_base::NoMemory;
+use worked_tests::{STORED, answer};
 
 const PAGE: &[u8] = b"<ul><li>5<li>120<li>x</ul>";
 
-const STORED: [Row; 8] = [
+const KEPT: [Row; 8] = [
     (
         "r: css('li::text').keep(near, '110').getall()",
         PAGE,
@@ -75,25 +76,14 @@ fn is_line_over(alloc: Global, row: &Row, tests: &Tests) -> Result<bool, NoMemor
 fn over_stored_tests(rt: HostRuntime) -> Result<(), Fail> {
     let alloc = rt.alloc();
     let mut tests = Tests::new(alloc);
-    let test: Box<dyn Fn(&str, &str) -> bool> = Box::new(
-        alloc,
-        |a: &str, b: &str| same_folded(a, b),
-    )?;
-    assert!(rt; tests.add("same", TestKind::SameFolded, test).is_ok());
-    let test: Box<dyn Fn(&str, &str) -> bool> = Box::new(
-        alloc,
-        |a: &str, b: &str| ends_with(a, b),
-    )?;
-    assert!(rt; tests.add("ends-with", TestKind::EndsWith, test).is_ok());
-    let test: Box<dyn Fn(&str, &str) -> bool> = Box::new(alloc, |a: &str, b: &str| has_word(a, b))?;
-    assert!(rt; tests.add("has-word", TestKind::HasWord, test).is_ok());
-    let most = 100u32;
-    let test: Box<dyn Fn(&str, &str) -> bool> = Box::new(
-        alloc,
-        move |a: &str, b: &str| near(most, a, b),
-    )?;
-    assert!(rt; tests.add("near", TestKind::Near(most), test).is_ok());
-    for row in &STORED[..] {
+    for (name, kind) in STORED {
+        let test: Box<dyn Fn(&str, &str) -> bool> = Box::new(
+            alloc,
+            move |a: &str, b: &str| answer(kind, a, b),
+        )?;
+        assert!(rt; tests.add(name, kind, test).is_ok());
+    }
+    for row in &KEPT[..] {
         assert!(rt; is_line_over(alloc, row, &tests)?, "{}", row.0);
     }
     Ok(())

@@ -14,6 +14,8 @@ mod pages;
 #[cfg(test)]
 mod records;
 #[cfg(test)]
+mod rows;
+#[cfg(test)]
 mod runs;
 #[cfg(test)]
 mod selectors;

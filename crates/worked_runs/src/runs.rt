@@ -227,7 +227,7 @@ fn script_limits(rt: HostRuntime) -> Result<(), Fail> {
     Ok(())
 }
 
-const BULK: [(&str, &str); 2] = [
+const BULK: [(&str, &str); 3] = [
     (
         "3",
         "{\"fields\":[{\"name\":\"items\",\"value\":\"3\"},{\"name\":\"k3\",\"value\":\"1\"},{\"name\":\"last\",\"value\":\"item 3\"},{\"name\":\"odd\",\"value\":\"2\"},{\"name\":\"first\",\"value\":\"/p/1\"}],\"page\":\"bulk\"}\n",
@@ -235,6 +235,10 @@ const BULK: [(&str, &str); 2] = [
     (
         "00300",
         "{\"fields\":[{\"name\":\"items\",\"value\":\"300\"},{\"name\":\"k3\",\"value\":\"43\"},{\"name\":\"last\",\"value\":\"item 300\"},{\"name\":\"odd\",\"value\":\"150\"},{\"name\":\"first\",\"value\":\"/p/1\"}],\"page\":\"bulk\"}\n",
+    ),
+    (
+        "20000",
+        "{\"fields\":[{\"name\":\"items\",\"value\":\"20000\"},{\"name\":\"k3\",\"value\":\"2857\"},{\"name\":\"last\",\"value\":\"item 20000\"},{\"name\":\"odd\",\"value\":\"10000\"},{\"name\":\"first\",\"value\":\"/p/1\"}],\"page\":\"bulk\"}\n",
     ),
 ];
 

@@ -8,7 +8,7 @@ use std::alloc::Global;
 use text_base::{NoMemory, Seq, Txt};
 
 /// How many bytes a sink of the tests takes.
-const ROOM: usize = 2_000_000;
+const ROOM: usize = 16_777_216;
 
 /// Pages that note the names that are begun.
 #[derive(Drop)]

@@ -1,0 +1,6 @@
+//! The tests that the program stores, for tests of the crates below.
+#![tactic(auto)]
+
+mod kinds;
+
+pub use kinds::{STORED, answer};
