@@ -10,21 +10,15 @@ use Rattle.std.proofs.lemmas.Bool.Decides.{nat_tests}
 use Rattle.std.proofs.lemmas.Str.{encode_ascii, encodes-chars, inside_one, encodes-append}
 use Rattle.std.proofs.lemmas.Str.Ascii.{lowercase_ascii}
 use Rattle.text_base.specs.Strings.{starts_with, is_among, runs}
-use Rattle.text_base.specs.Text.{is_space5, IsNarrow}
+use Rattle.text_base.specs.Text.{is_space5}
 use Rattle.text_base.specs.Words.{words_by}
 use Rattle.text_base.proofs.ByteParts.{same_bytes, starts_bytes}
-use Rattle.text_base.proofs.WordLemmas.{words_bytes, words_runs}
+use Rattle.text_base.proofs.WordLemmas.{words_runs, space5_ascii}
+use Rattle.text_base.proofs.WordWalks.{among_chars}
 use Rattle.css_meaning.specs.Attributes.{word_test, dash_test, lang_test}
 use Rattle.css_meaning.proofs.Values.{word_is_run, run_means}
 
 -- ---- words
-
-among_bytes : (v : List ℕ) (ws : List (List ℕ)) → is_among (encode_utf8_all v) (map encode_utf8_all ws) ≡ is_among v ws
-among_bytes v [] = refl
-among_bytes v (w ∷ ws) = ap (λ b. b || is_among (encode_utf8_all v) (map encode_utf8_all ws)) (same_bytes w v) ∙ ap (λ b. bytes_eq w v || b) (among_bytes v ws)
-
-space5_ascii : IsNarrow is_space5
-space5_ascii b past = grind (arith, nat_tests)
 
 -- the words have characters, and no white space
 word_among : (x v : List ℕ) → word_test x v ≡ is_among v (runs is_space5 x)
@@ -32,12 +26,7 @@ word_among x v = both_ways _ _ (λ h. (run_means is_space5 x v).1 ((word_is_run 
 
 pub word_chars : (x v : List ℕ) → IsUtf8 x → IsUtf8 v → is_among v (words_by is_space5 x) ≡ word_test (chars x) (chars v)
 word_chars x v utf8 other =
-    ap (λ t. is_among t (words_by is_space5 x)) (sym (encodes-chars v other))
-    ∙ ap (λ t. is_among (encode_utf8_all (chars v)) (words_by is_space5 t)) (sym (encodes-chars x utf8))
-    ∙ ap (is_among (encode_utf8_all (chars v))) (words_bytes is_space5 space5_ascii (chars x))
-    ∙ among_bytes (chars v) (words_by is_space5 (chars x))
-    ∙ ap (is_among (chars v)) (words_runs is_space5 (chars x))
-    ∙ sym (word_among (chars x) (chars v))
+    among_chars is_space5 space5_ascii x v utf8 other ∙ ap (is_among (chars v)) (words_runs is_space5 (chars x)) ∙ sym (word_among (chars x) (chars v))
 
 -- ---- dashes
 

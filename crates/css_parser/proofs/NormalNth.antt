@@ -8,9 +8,9 @@ use Rattle.std.proofs.lemmas.Bool.{and_parts, and_from, ne_eqb, eq-eqb, lt-ltb}
 use Rattle.std.proofs.lemmas.Bool.Decides.{nat_tests}
 use Rattle.text_base.specs.Text.{run_end, is_digit, digits_value}
 use Rattle.text_base.proofs.Runs.{run_end_step, run_end_stop, run_end_end}
+use Rattle.text_base.proofs.Decimals.{Digits, decimal_digits}
 use Rattle.css_lexer.proofs.SpelledUnits.{first_byte, rest_after, byte_inside, run_is}
 use Rattle.css_selectors.specs.WellMade.{IsSmall, most_number}
-use Rattle.css_selectors.proofs.Decimals.{Digits, decimal_digits}
 use Rattle.css_parser.specs.declared.nth.Number.{Number}
 use Rattle.css_parser.specs.Nth.{is_blank, past_blanks, past_digits, ends, size, number, line, is_sign, is_letter_at, is_odd, is_even, last_number, behind_n, with_b, factor, behind_sign, linear, nth}
 use Rattle.css_parser.specs.Simples.{signed}

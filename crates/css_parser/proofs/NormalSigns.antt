@@ -34,7 +34,7 @@ use Rattle.css_selectors.specs.declared.selector.Weight.TheVariants as weight
 use Rattle.css_selectors.specs.Texts as t
 use Rattle.css_selectors.specs.Texts.{element_text, test_texts, compound_texts, part_texts, relative_texts, simple_texts, tail_text, selector_texts, AreTexts}
 use Rattle.css_selectors.specs.WellMade.{FitsTest, FitsPart, FitsSimple, IsPart, IsSelector, WellMade, Nowhere, innermost, IsSmall, most_number}
-use Rattle.css_selectors.proofs.Decimals.{decimal_digits}
+use Rattle.text_base.proofs.Decimals.{decimal_digits}
 use Rattle.css_selectors.proofs.TextsAt.{at_layer, at_compound, at_part, at_relative, at_simple}
 use Rattle.css_parser.specs.Normal.{element_signs, called, listed, compared_signs, attribute_signs, nth_name, sign_of, line_signs, pseudo_name, weight_name, TestSigns, test_step, compound_step, part_step, relative_step, simple_step, link_signs, first_signs, chain_signs, path_signs, test_signs, compound_signs, part_signs, relative_signs, simple_signs, tail_signs, selector_signs, list_signs}
 use Rattle.css_parser.specs.Writable.{IsNamed, IsMember, WritesTest, WritesSimple, WritesSelector, IsTailNamed, IsWritable, Nothing}

@@ -1,5 +1,4 @@
 pub mod Bounds
-pub mod Decimals
 pub mod Equations
 pub mod Made
 pub mod Mapped

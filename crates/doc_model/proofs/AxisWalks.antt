@@ -1,7 +1,8 @@
 -- Which rows each axis is looked for in.
 use Rattle.std.proofs.Common.{◌≡◌, ℕ, zero, suc, ◌+◌, ◌-◌, ◌<◌, ◌≤◌, length, Bool, true, false, ◌&&◌, ◌||◌, eqb, ltb, refl, sym, ◌∙◌, ap, subst, arith, inl, inr, ◌⊎◌, lt-ltb}
 use Rattle.std.specs.Prelude.{not}
-use Rattle.std.proofs.lemmas.Bool.{or_cases, and_parts, and_left, and_right, or_from, or_left, cases_lt, cases_eq, eqb-true, eq-eqb, ne_eqb, le-ltb, ltb-true, both_ways, false_from_ne_true, not_from_true}
+use Rattle.std.proofs.lemmas.Bool.{or_cases, and_parts, and_left, and_right, or_from, or_left, cases_lt, eqb-true, eq-eqb, ne_eqb, le-ltb, ltb-true, both_ways, false_from_ne_true, not_from_true}
+use Rattle.text_base.proofs.Swaps.{flip}
 use Rattle.doc_model.specs.declared.Kind.{Kind}
 use Rattle.doc_model.specs.declared.Kind.TheVariants.{Root, Element, Attribute, Text, Comment}
 use Rattle.doc_model.specs.declared.Axis.{Axis}
@@ -33,9 +34,6 @@ true_and a b h = ap (λ v. v && b) h
 
 not_false : (b : Bool) → b ≡ false → not b ≡ true
 not_false b h = ap not h
-
-eqb_comm : (a b : ℕ) → eqb a b ≡ eqb b a
-eqb_comm a b = elim (cases_eq a b) [ inl e ↦ eq-eqb a b e ∙ sym (eq-eqb b a (sym e)) | inr e ↦ ne_eqb a b e ∙ sym (ne_eqb b a (λ f. e (sym f))) ]
 
 -- the parent of a row below y is y or stands after it
 pub parent_from : (doc : Document) (y z : ℕ) → Small doc → below doc y z ≡ true → y ≤ (row doc z).parent
@@ -145,7 +143,7 @@ following_walk doc x e d end =
 -- two rows that may be siblings are so where they have one parent
 siblings : (doc : Document) (x y : ℕ) → 0 < x → 0 < y → is_attribute doc x ≡ false → are_siblings doc x y ≡ (not (is_attribute doc y) && eqb (row doc y).parent (row doc x).parent)
 siblings doc x y p q a =
-    true_and _ _ (lt-ltb 0 x p) ∙ true_and _ _ (lt-ltb 0 y q) ∙ true_and _ _ (not_false _ a) ∙ ap (λ b. not (is_attribute doc y) && b) (eqb_comm (row doc x).parent (row doc y).parent)
+    true_and _ _ (lt-ltb 0 x p) ∙ true_and _ _ (lt-ltb 0 y q) ∙ true_and _ _ (not_false _ a) ∙ ap (λ b. not (is_attribute doc y) && b) (flip (row doc x).parent (row doc y).parent)
 
 -- rows with other parents are no siblings
 apart : (doc : Document) (x y : ℕ) → (0 < y → (row doc y).parent ≡ (row doc x).parent → ⊥) → are_siblings doc x y ≡ false

@@ -1,5 +1,5 @@
 -- Names and texts that are taken as they are written.
-use Rattle.std.proofs.Common.{◌≡◌, ◌≤◌, arith, inl, inr, ℕ, List, [], ◌∷◌, ◌++◌, Bool, true, false, ◌&&◌, ◌||◌, refl, ◌∙◌, ap, map, eqb, None}
+use Rattle.std.proofs.Common.{◌≡◌, ◌≤◌, arith, inl, inr, ℕ, List, [], ◌∷◌, ◌++◌, true, false, refl, ◌∙◌, ap, map, eqb, None}
 use Rattle.std.specs.Prelude.{not}
 use Rattle.std.specs.List.{list_all, list_any}
 use Rattle.std.specs.Char.{is_ascii_uppercase, to_ascii_lowercase}

@@ -1,11 +1,10 @@
 -- The rows that a balanced piece makes are a document.
-use Rattle.std.proofs.Common.{◌≡◌, ℕ, zero, suc, ◌-◌, ◌<◌, List, [], ◌∷◌, ◌++◌, map, length, Bool, sym, refl, ◌∙◌, ap, subst, arith, append-nil, append_assoc, IsUtf8, inl, inr, eqb}
-use Rattle.std.specs.Prelude.{◌≢◌, ◌||◌, ◌&&◌}
+use Rattle.std.proofs.Common.{◌≡◌, ℕ, zero, suc, ◌-◌, List, [], ◌∷◌, ◌++◌, map, length, sym, refl, ◌∙◌, ap, subst, arith, append-nil, append_assoc, IsUtf8, inl, inr, eqb}
+use Rattle.std.specs.Prelude.{◌≢◌, ◌&&◌}
 use Rattle.std.specs.Str.{chars}
 use Rattle.std.proofs.lemmas.Bool.{or_right, eq-eqb, cases_lt}
 use Rattle.std.proofs.lemmas.List.{length_push}
 use Rattle.std.proofs.lemmas.Str.{IsUtf8-nil, IsUtf8-append}
-use Rattle.doc_model.specs.declared.Kind.TheVariants.{Attribute}
 use Rattle.doc_model.specs.Document.{Row, row, is_attribute, is_attribute_kind}
 use Rattle.doc_model.specs.Growing.{Growing, growing, innermost, with_attr, with_element, attr_row, AwaitsAttr, IsGrowing}
 use Rattle.doc_model.proofs.Awaits.{no_text, awaits_first_attr}

@@ -1,5 +1,5 @@
 -- A tree as it is written out, and that its tokens are those of its marks.
-use Rattle.std.proofs.Common.{◌≡◌, ℕ, ◌+◌, ◌<◌, List, [], ◌∷◌, ◌++◌, map, length, drop, Bool, true, false, ◌&&◌, ◌||◌, cond, sym, refl, ◌∙◌, ap, subst, arith, append_assoc, append-nil, length-append, inr}
+use Rattle.std.proofs.Common.{◌≡◌, ℕ, ◌+◌, List, [], ◌∷◌, ◌++◌, map, length, drop, Bool, true, false, ◌&&◌, ◌||◌, cond, sym, refl, ◌∙◌, ap, subst, arith, append_assoc, append-nil, length-append, inr}
 use Rattle.std.specs.Prelude.{not, codes, ◌==◌}
 use Rattle.std.specs.Str.{IsUtf8, str_to_ascii_lowercase}
 use Rattle.std.specs.List.{AllPass}
@@ -13,7 +13,7 @@ use Rattle.html_lexer.proofs.RestLemmas.{rest_past}
 use Rattle.html_reader.specs.Tokens.{text, comment, doctype, Tok, ends, holds, token}
 use Rattle.html_reader.specs.Forest.{Forest, nothing, then_leaf, then_element, marks, close_of}
 use Rattle.html_reader.specs.Tables.{is_void}
-use Rattle.html_reader.specs.Contents.{newline_names, takes_newline, content}
+use Rattle.html_reader.specs.Contents.{newline_names, takes_newline}
 use Rattle.html_reader.specs.Words.{tokens_of}
 use Rattle.html_reader.proofs.PageLemmas.{tokens_of-append}
 use Rattle.html_reader.proofs.InkParts.{ink_text, ink_pair, ink_tag, end_ink, newline, is_literal, ink_content, Spelled, IsInkTag, tag_spelled, end_spelled, IsInkComment, comment_spelled, text_spelled, IsRawText, raw_spelled}

@@ -18,8 +18,7 @@ use Rattle.html_lexer.specs.TokenLaws.{IsTagName, IsQuotable, written, written_t
 use Rattle.html_lexer.specs.Lexing.{Begins, Spell}
 use Rattle.html_lexer.proofs.WrittenLemmas.{tag_begins, written_attributes}
 use Rattle.html_lexer.proofs.BackLemmas.{plain_end, end_back, comment_back, IsNext, text_back, raw_back, NoEnd, raw_first, closes_itself}
-use Rattle.html_reader.specs.Tokens.{Attr, Tag, text, comment, Tok, starts, ends, holds, token}
-use Rattle.html_reader.specs.Forest.{nothing, marks}
+use Rattle.html_reader.specs.Tokens.{Attr, Tag, text, comment, Tok, starts, ends, holds}
 use Rattle.html_reader.specs.Contents.{kept, takes_newline, without_newline, meant, content}
 use Rattle.html_reader.specs.Pages.{Means, AllMean}
 

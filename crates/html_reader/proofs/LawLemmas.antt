@@ -1,5 +1,5 @@
 -- Tokens build one document, or have one fault.
-use Rattle.std.proofs.Common.{◌≡◌, List, [], Bool, true, false, ◌∙◌, ap, None}
+use Rattle.std.proofs.Common.{◌≡◌, List, [], Bool, true, ◌∙◌, ap, None}
 use Rattle.std.proofs.lemmas.Bool.{both_ways}
 use Rattle.text_base.specs.declared.reasons.PageReason.{PageReason}
 use Rattle.text_base.specs.declared.reasons.PageReason.TheVariants.{Unclosed, NoRoot}

@@ -1,10 +1,8 @@
 -- What a page within the limit builds is a document whose rows and characters are few.
-use Rattle.std.proofs.Common.{◌≡◌, ℕ, ◌+◌, ◌*◌, ◌<◌, ◌≤◌, List, [], ◌∷◌, ◌++◌, length, Bool, true, false, sym, ◌∙◌, ap, subst, arith, append-nil, IsUtf8}
+use Rattle.std.proofs.Common.{◌≡◌, ℕ, ◌+◌, ◌*◌, ◌≤◌, List, [], ◌∷◌, ◌++◌, length, Bool, true, false, sym, ◌∙◌, ap, subst, arith, append-nil, IsUtf8}
 use Rattle.std.specs.Prelude.{◌≢◌, codes}
 use Rattle.std.specs.Str.{chars}
 use Rattle.doc_model.specs.Document.{IsDocument}
-use Rattle.doc_model.specs.Limits.{Countable}
-use Rattle.text_base.specs.Limits.{most_page}
 use Rattle.doc_model.specs.Growing.{growing, fresh, innermost, IsGrowing}
 use Rattle.doc_model.proofs.Grown.{grown_fresh, grown_element}
 use Rattle.std.proofs.lemmas.Str.{IsUtf8-nil}
@@ -18,7 +16,7 @@ use Rattle.html_reader.specs.Rows.{grown}
 use Rattle.html_reader.specs.Places.{Place, base, outside, place_marks, place_grown, all_rows}
 use Rattle.html_reader.specs.Words.{tokens_of}
 use Rattle.html_reader.specs.Reading.{is_fragment}
-use Rattle.html_reader.specs.Pages.{Means, AllMean, BuildsPage}
+use Rattle.html_reader.specs.Pages.{Means, AllMean}
 use Rattle.html_reader.specs.PageLaws.{PageDocuments}
 use Rattle.html_reader.specs.inner.Kept.{AreKept}
 use Rattle.html_reader.specs.inner.Keeping.{HaveTexts}

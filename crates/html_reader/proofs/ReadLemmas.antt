@@ -1,5 +1,5 @@
 -- Tokens read one by one.
-use Rattle.std.proofs.Common.{◌≡◌, ℕ, zero, suc, ◌+◌, ◌≤◌, List, [], ◌∷◌, ◌++◌, length, Bool, true, false, cond, sym, refl, ◌∙◌, ap, subst, arith, Option, Some, None, Ok, Err, length-append, append-nil, ◌&&◌, inl, inr}
+use Rattle.std.proofs.Common.{◌≡◌, ℕ, ◌+◌, ◌≤◌, List, [], ◌∷◌, ◌++◌, length, Bool, true, false, cond, sym, refl, ◌∙◌, ap, subst, arith, Option, Some, None, Ok, Err, length-append, append-nil, ◌&&◌, inl, inr}
 use Rattle.std.specs.Prelude.{Result, not}
 use Rattle.text_base.specs.declared.reasons.PageReason.{PageReason}
 use Rattle.text_base.specs.declared.reasons.PageReason.TheVariants.{Unclosed, NoRoot}

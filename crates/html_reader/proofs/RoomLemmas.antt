@@ -1,5 +1,5 @@
 -- How far the rows and the open tags grow.
-use Rattle.std.proofs.Common.{◌≡◌, ℕ, zero, suc, ◌+◌, ◌≤◌, List, [], ◌∷◌, length, Bool, true, false, cond, Ok, Err, sym, ap, subst, arith, length-append, eqb, ◌&&◌}
+use Rattle.std.proofs.Common.{◌≡◌, ◌+◌, ◌≤◌, List, [], ◌∷◌, length, Bool, true, false, cond, Ok, Err, sym, ap, subst, arith, length-append, eqb, ◌&&◌}
 use Rattle.std.specs.Prelude.{not}
 use Rattle.std.proofs.lemmas.List.{length-map}
 use Rattle.text_base.specs.declared.reasons.PageReason.TheVariants.{StrayEnd, SecondRoot, Deep, TextOutside}

@@ -1,7 +1,7 @@
 -- How many rows the tokens of a page make, and how many characters the values of its attributes have.
-use Rattle.std.proofs.Common.{◌≡◌, ℕ, zero, suc, ◌+◌, ◌*◌, ◌-◌, ◌≤◌, Bool, true, false, cond, List, [], ◌∷◌, ◌++◌, map, length, take, drop, sym, refl, ◌∙◌, ap, subst, arith, length-append, length-take, length-drop, Option, Some, None, IsUtf8}
+use Rattle.std.proofs.Common.{◌≡◌, ℕ, zero, suc, ◌+◌, ◌*◌, ◌-◌, ◌≤◌, Bool, true, false, cond, List, [], ◌∷◌, ◌++◌, map, length, drop, ap, arith, length-append, length-take, length-drop, Option, Some, None, IsUtf8}
 use Rattle.std.specs.Str.{bytes_eq, chars, str_to_ascii_lowercase}
-use Rattle.std.specs.Prelude.{IsTrue, slice_range}
+use Rattle.std.specs.Prelude.{IsTrue}
 use Rattle.std.proofs.lemmas.List.{length-map}
 use Rattle.std.proofs.lemmas.Str.{length-encode, len_utf8_bounds, length-le-encodes}
 use Rattle.text_base.proofs.Text.{encode-chars}

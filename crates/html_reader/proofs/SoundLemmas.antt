@@ -1,5 +1,5 @@
 -- A place's state is one that the reader keeps.
-use Rattle.std.proofs.Common.{◌≡◌, ℕ, ◌+◌, ◌<◌, ◌≤◌, List, [], ◌∷◌, length, Bool, true, false, sym, refl, ◌∙◌, ap, subst, arith, length-append, zero, suc}
+use Rattle.std.proofs.Common.{◌≡◌, ℕ, ◌+◌, ◌<◌, List, [], ◌∷◌, length, Bool, true, false, sym, refl, ◌∙◌, ap, subst, arith, length-append}
 use Rattle.html_reader.specs.Tokens.{Tok}
 use Rattle.html_reader.specs.Rows.{text_rows}
 use Rattle.html_reader.specs.Places.{Place, outside, within, open_tags, place_grown, Grown}

@@ -1,16 +1,15 @@
 -- The texts of the lines of pages are the texts of their values.
-use Rattle.std.proofs.Common.{◌≡◌, refl, ℕ, Bool, true, false, List, [], ◌∷◌, ◌++◌, ap, ◌∙◌, map, zip, ◌||◌, append_assoc, sym, codes, Option, Some, None}
+use Rattle.std.proofs.Common.{◌≡◌, refl, ℕ, false, List, [], ◌∷◌, ◌++◌, ap, ◌∙◌, map, zip, ◌||◌, append_assoc, codes, Some, None}
 use Rattle.std.specs.List.{join_with_byte}
 use Rattle.std.specs.Prelude.{encode_utf8_all}
 use Rattle.json.specs.Print.{quoted, escape_byte}
 use Rattle.serde_json.specs.Data.{Data, string}
-use Rattle.serde_json.specs.View.{items_of}
-use Rattle.serde_json.specs.Written.{has_float, items_have_float, items_text, compact_text}
+use Rattle.serde_json.specs.Written.{has_float, compact_text}
 use Rattle.text_base.specs.declared.reasons.PageFault.{PageFault}
 use Rattle.query_script.specs.declared.script.Field.{Field}
 use Rattle.query_script.specs.declared.script.FieldValue.{FieldValue}
 use Rattle.query_script.specs.declared.script.FieldValue.TheVariants.{All, One, Refused}
-use Rattle.json_lines.specs.Pages.{string_text, value_text, field_text, page_text, refused_text, texts_data, field_data, fields_data, page_data, refused_data}
+use Rattle.json_lines.specs.Pages.{string_text, value_text, field_text, page_text, refused_text, field_data, page_data, refused_data}
 use Rattle.json_lines.proofs.LineLemmas.{items_no_float, items_compact}
 
 pub field_no_float : (name : List ℕ) (v : FieldValue) → has_float (field_data name v) ≡ false

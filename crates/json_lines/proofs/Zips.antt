@@ -1,5 +1,5 @@
 -- Fields with their values, one after the other.
-use Rattle.std.proofs.Common.{◌≡◌, refl, ℕ, ◌+◌, ◌<◌, zero, suc, List, [], ◌∷◌, ◌++◌, ap, sym, ◌∙◌, map, zip, take, length, get_or, arith, add-one}
+use Rattle.std.proofs.Common.{◌≡◌, refl, ℕ, ◌+◌, ◌<◌, zero, suc, List, [], ◌∷◌, ◌++◌, ap, ◌∙◌, map, zip, take, length, get_or, arith, add-one}
 use Rattle.std.proofs.lemmas.List.{map-append}
 use Rattle.std.specs.Prelude.{encode_utf8_all}
 use Rattle.serde_json.specs.Data.{Data}

@@ -1,5 +1,5 @@
 -- The lines of pages, as JSON (RFC 8259) without white space, the members of an object in the order of their keys.
-use Rattle.std.specs.Prelude.{ℕ, List, ◌++◌, map, zip, codes, decimal, Option, Some, None, encode_utf8_all}
+use Rattle.std.specs.Prelude.{ℕ, List, ◌++◌, map, zip, codes, decimal, Some, None, encode_utf8_all}
 use Rattle.std.specs.List.{join_with_byte}
 use Rattle.json.specs.Print.{quoted}
 use Rattle.serde_json.specs.Data.{Data, array, object, string, null, number, unsigned, no_members, member}

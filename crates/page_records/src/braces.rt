@@ -111,7 +111,7 @@ fn block_pieces(alloc: Global, text: &str) -> Result<Vec<&str>, NoMemory>
 }
 
 /// The pieces of a script that are fields or blocks.
-pub(crate) fn entry_pieces(alloc: Global, text: &str) -> Result<Vec<&str>, NoMemory>
+pub fn entry_pieces(alloc: Global, text: &str) -> Result<Vec<&str>, NoMemory>
     ensures { IfOk result (λ v. map (λ p. p.now) v.items ≡ entries_of text.now) }
 {
     let all = block_pieces(alloc, text)?;

@@ -17,6 +17,7 @@ mod sizes;
 mod stops;
 mod words;
 
+pub use braces::entry_pieces;
 pub use entries::{ReadyEntry, prepare_entry};
 pub use laws::{
     entries_run, one_entry_value, outcomes_have_forms, plain_entries, read_or_refused,

@@ -9,8 +9,6 @@ pub mod ListLemmas
 pub mod MoreLemmas
 pub mod OneStep
 pub mod OrderedLemmas
-pub mod PrintedPieces
-pub mod PrintedUtf8
 pub mod QueryLemmas
 pub mod Reasons
 pub mod SplitLemmas

@@ -29,7 +29,7 @@ use Rattle.query_script.specs.Steps.{doubled, IsString, IsCall, IsStepText, AreS
 use Rattle.query_script.specs.Queries.{IsCssStep, IsKept, AreKept}
 use Rattle.query_script.specs.Ordered.{IsInOrder, AreOrderedOver, IsOrderedChainOver, IsOrderedOver}
 use Rattle.query_script.specs.Fields.{IsChain, IsUnnamedField, IsNamedField, IsFieldOver, AreFields, IsScriptOver}
-use Rattle.query_script.proofs.PrintedUtf8.{printed_utf8}
+use Rattle.css_printed.proofs.PrintedUtf8.{printed_utf8}
 use Rattle.query_script.proofs.QueryLemmas.{css_ordered, in_order}
 use Rattle.query_script.proofs.SplitLemmas.{none_there}
 use Rattle.query_script.proofs.StepLemmas.{quote_ascii}

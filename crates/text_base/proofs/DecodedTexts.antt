@@ -9,7 +9,7 @@ use Rattle.std.proofs.lemmas.Str.{IsUtf8-nil, IsUtf8-append, IsUtf8-encode, IsUt
 use Rattle.text_base.specs.Text.{run_end, is_not_byte}
 use Rattle.text_base.specs.declared.reasons.PageReason.TheVariants.{NotUtf8, Nul}
 use Rattle.text_base.specs.inner.Newlines.{newlines_after}
-use Rattle.text_base.specs.Decoding.{newlines, without_mark, decoded, fault}
+use Rattle.text_base.specs.Decoding.{newlines, without_mark, fault}
 use Rattle.text_base.specs.DecodingLaws.{DecodedTexts}
 use Rattle.text_base.proofs.Boundaries.{boundary}
 use Rattle.text_base.proofs.NewlineLemmas.{past_mark}

@@ -1,6 +1,7 @@
 pub mod Boundaries
 pub mod ByteParts
 pub mod CharacterLemmas
+pub mod Decimals
 pub mod DecodedTexts
 pub mod Lists
 pub mod NewlineLemmas
@@ -9,7 +10,10 @@ pub mod PartLemmas
 pub mod Places
 pub mod PlainLemmas
 pub mod Runs
+pub mod SpacedWords
+pub mod Swaps
 pub mod Text
 pub mod TextTests
 pub mod Wanted
 pub mod WordLemmas
+pub mod WordWalks

@@ -5,12 +5,10 @@ use Rattle.std.specs.Cmp.{both_ways}
 use Rattle.std.specs.List as list
 use Rattle.std.specs.Str.{bytes_eq}
 use Rattle.std.specs.Cmp.Lexicographic.{pointwise}
-use Rattle.std.proofs.lemmas.Bool.{eqb-true, eq-eqb, and_right, or_from, cases_lt, ltb-true}
+use Rattle.std.proofs.lemmas.Bool.{and_right, or_from, cases_lt, ltb-true}
 use Rattle.text_base.specs.Strings.{starts_with, ends_with, contains, is_empty}
 use Rattle.text_base.specs.Text.{first_place, find_where, begins_with}
-
-turned : (a b : ℕ) → eqb a b ≡ eqb b a
-turned a b = both_ways (eqb a b) (eqb b a) (λ h. eq-eqb b a (sym (eqb-true a b h))) (λ h. eq-eqb a b (sym (eqb-true b a h)))
+use Rattle.text_base.proofs.Swaps.{flip}
 
 and_both : (a b c d : Bool) → a ≡ c → b ≡ d → (a && b) ≡ (c && d)
 and_both a b c d h k = cc
@@ -18,13 +16,13 @@ and_both a b c d h k = cc
 pub std_starts : (x v : List ℕ) → list.starts_with eqb x v ≡ starts_with x v
 std_starts x [] = refl
 std_starts [] (b ∷ v) = refl
-std_starts (a ∷ x) (b ∷ v) = and_both _ _ _ _ (turned b a) (std_starts x v)
+std_starts (a ∷ x) (b ∷ v) = and_both _ _ _ _ (flip b a) (std_starts x v)
 
 std_same : (y v : List ℕ) → pointwise eqb v y ≡ bytes_eq y v
 std_same [] [] = refl
 std_same (a ∷ y) [] = refl
 std_same [] (b ∷ v) = refl
-std_same (a ∷ y) (b ∷ v) = and_both _ _ _ _ (turned b a) (std_same y v)
+std_same (a ∷ y) (b ∷ v) = and_both _ _ _ _ (flip b a) (std_same y v)
 
 -- texts of different lengths are not the same
 other_length : (x v : List ℕ) → (length x ≡ length v → ⊥) → bytes_eq x v ≡ false

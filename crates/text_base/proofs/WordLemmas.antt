@@ -5,7 +5,7 @@ use Rattle.std.proofs.lemmas.Bool.{cases_lt, cases_Bool, both_ways}
 use Rattle.std.proofs.lemmas.List.{append-nil, take-append-drop, take_all, drop_all, drop_more, drop-drop, get_or-drop, get_or-take, get_or_default, length-take, length-drop}
 use Rattle.std.proofs.lemmas.List.Splits.{slice_split-cons_yes, slice_split-cons_no, slice_split_none, slice_split_at}
 use Rattle.std.proofs.lemmas.Str.{encode_ascii, inside_one, length-encode, len_utf8_bounds, encodes_same}
-use Rattle.text_base.specs.Text.{run_end, IsNarrow, is_space4, not_space4}
+use Rattle.text_base.specs.Text.{run_end, IsNarrow, is_space4, is_space5, not_space4}
 use Rattle.text_base.specs.Strings.{pieces, not_empty, runs}
 use Rattle.text_base.specs.Words.{is_some, words_by}
 use Rattle.std.proofs.lemmas.Bool.Decides.{nat_tests}
@@ -161,6 +161,9 @@ texts_same (v ∷ vs) (w ∷ ws) e =
 
 pub space4_ascii : IsNarrow is_space4
 space4_ascii b past = grind (arith, nat_tests)
+
+pub space5_ascii : IsNarrow is_space5
+space5_ascii b past = grind (arith, nat_tests)
 
 pub space4_other : (b : ℕ) → not_space4 b ≡ true → is_space4 b ≡ false
 space4_other b h = grind arith

@@ -1,5 +1,4 @@
 pub mod Asks
-pub mod Between
 pub mod Counting
 pub mod Covering
 pub mod Deep
@@ -11,5 +10,5 @@ pub mod Lists
 pub mod Placeless
 pub mod Sides
 pub mod Spaced
+pub mod SpacedTexts
 pub mod Turns
-pub mod WordSteps

@@ -14,8 +14,8 @@ use Rattle.xpath_parser.specs.Functions.{Context, called, concat_of}
 use Rattle.xpath_parser.specs.Denote.{denote}
 use Rattle.xpath_parser.proofs.Equations as eqs
 use Rattle.xpath_eval.specs.inner.Words.{IsNormalized, IsSpaced, IsWord, spaced}
-use Rattle.xpath_eval.proofs.Between.{word_between}
 use Rattle.xpath_eval.proofs.Sides.{attribute_path}
+use Rattle.xpath_eval.proofs.SpacedTexts.{word_between}
 
 pub two_items : {A : Type 0} (xs : List A) (a b : A) → length xs ≡ 2 → a ≡ get_or xs 0 a → b ≡ get_or xs 1 b → xs ≡ a ∷ b ∷ []
 two_items {A} [] a b l h k = absurd (let none : length {A = A} [] ≡ 0 = refl in omega (arith, l, none))
@@ -49,4 +49,4 @@ module _ (doc : Document) (c : Context) where
       ap (λ v. called doc f.Contains (map (λ x. denote doc x c) v) c) all
       ∙ ap (λ v. Truth (contains (text_of doc v) (text_of doc (denote doc e c)))) (joined d name text)
       ∙ ap (λ v. Truth (contains (spaced (normalized (value_text name))) (text_of doc v))) (ap (λ x. denote doc x c) is ∙ eqs.at_literal doc (spaced word) c)
-      ∙ ap Truth (word_between (value_text name) word w.whole w.some ∙ sym same)
+      ∙ ap Truth (word_between (value_text name) word w ∙ sym same)

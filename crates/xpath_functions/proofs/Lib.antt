@@ -10,4 +10,3 @@ mod Spaces
 mod TextSets
 mod Translations
 mod Truths
-mod Words

@@ -1,1 +1,2 @@
 mod Scanned
+pub mod Words

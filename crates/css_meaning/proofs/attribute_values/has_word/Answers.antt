@@ -1,13 +1,14 @@
 use Rattle.std.proofs.Common.{◌≡◌, ◌-◌, ◌<◌, List, ℕ, length, take, drop, ◌∙◌, ap, arith}
 use Rattle.std.specs.Str.{bytes_eq}
+use Rattle.text_base.specs.Text.{is_space5}
+use Rattle.text_base.proofs.WordWalks.{behind_space, from_start, word_found, word_passed}
 use Rattle.css_meaning.proofs.ByteWords.{word_chars}
-use Rattle.css_meaning.proofs.WordSteps.{behind_space, from_start, word_found, word_passed}
 use Rattle.css_meaning.proofs.attribute_values.has_word.Goals as goal
 
 pub loop-at-init : goal.loop-at-init
 loop-at-init c = record {
-  word = behind_space c.args.value.now c.args.wanted.now 0 c.run_end-at.result c.run_end-at.ensures.end;
-  rest = from_start c.args.value.now c.args.wanted.now c.run_end-at.result c.run_end-at.ensures.end ∙ word_chars c.args.value.now c.args.wanted.now c.utf8.value c.utf8.wanted;
+  word = behind_space is_space5 c.args.value.now c.args.wanted.now 0 c.run_end-at.result c.run_end-at.ensures.end;
+  rest = from_start is_space5 c.args.value.now c.args.wanted.now c.run_end-at.result c.run_end-at.ensures.end ∙ word_chars c.args.value.now c.args.wanted.now c.utf8.value c.utf8.wanted;
 }
 
 pub returns-then-eq : goal.returns-then-eq
@@ -20,7 +21,7 @@ returns-then-eq c =
     let same : c.eq.result ≡ bytes_eq (take (end - at) (drop at text)) wanted =
     c.eq.ensures ∙ ap (λ (t : List ℕ). bytes_eq (take (end - at) (drop at t)) c.as_bytes.result.now) c.as_bytes-bytes.ensures.value
     ∙ ap (λ (t : List ℕ). bytes_eq (take (end - at) (drop at text)) t) c.as_bytes.ensures.value in
-    word_found text wanted at end within (c.loop-at.invariant.word within) c.run_end-end.ensures.end c.eq.result same c.if-eq.true ∙ c.loop-at.invariant.rest
+    word_found is_space5 text wanted at end within (c.loop-at.invariant.word within) c.run_end-end.ensures.end c.eq.result same c.if-eq.true ∙ c.loop-at.invariant.rest
 
 pub loop-at-preserved : goal.loop-at-preserved
 loop-at-preserved c =
@@ -34,7 +35,7 @@ loop-at-preserved c =
     c.eq.ensures ∙ ap (λ (t : List ℕ). bytes_eq (take (end - at) (drop at t)) c.as_bytes.result.now) c.as_bytes-bytes.ensures.value
     ∙ ap (λ (t : List ℕ). bytes_eq (take (end - at) (drop at text)) t) c.as_bytes.ensures.value in
     record {
-      word = behind_space text wanted end next c.run_end-at-in-loop-at.ensures.end;
-      rest = word_passed text wanted at end within (c.loop-at.invariant.word within) c.run_end-end.ensures.end c.eq.result same next c.if-eq.false c.run_end-at-in-loop-at.ensures.end
+      word = behind_space is_space5 text wanted end next c.run_end-at-in-loop-at.ensures.end;
+      rest = word_passed is_space5 text wanted at end within (c.loop-at.invariant.word within) c.run_end-end.ensures.end c.eq.result same next c.if-eq.false c.run_end-at-in-loop-at.ensures.end
           ∙ c.loop-at.invariant.rest;
     }

@@ -1,4 +1,3 @@
-use Rattle.serde_json.specs.View.{view}
 use Rattle.json_lines.proofs.PageLines.{page_value_text, page_line_text}
 use Rattle.json_lines.proofs.pages.page_line.Goals as goal
 

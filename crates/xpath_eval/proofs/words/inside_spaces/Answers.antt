@@ -1,7 +1,7 @@
 use Rattle.std.proofs.Common.{◌≡◌, List, ℕ, ◌∷◌, ◌++◌, [], ◌∙◌, ap, arith}
 use Rattle.std.proofs.lemmas.Str.Pattern.{strip_prefix_char, strip_suffix_char}
 use Rattle.std.proofs.Common.{Some}
-use Rattle.xpath_eval.proofs.WordSteps.{spaced_chars}
+use Rattle.xpath_eval.proofs.SpacedTexts.{spaced_chars}
 use Rattle.xpath_eval.proofs.words.inside_spaces.Goals as goal
 
 pub returns-then-is_word-clause-text : goal.returns-then-is_word-clause-text

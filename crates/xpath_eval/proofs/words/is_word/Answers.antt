@@ -1,8 +1,9 @@
 use Rattle.std.proofs.Common.{sym, ◌∙◌, ap}
 use Rattle.std.specs.Str.{chars}
 use Rattle.text_base.specs.Strings.{contains}
+use Rattle.text_base.proofs.SpacedWords.{no_space}
 use Rattle.xpath_eval.proofs.Covering.{was_false}
-use Rattle.xpath_eval.proofs.WordSteps.{no_space, space_chars}
+use Rattle.xpath_eval.proofs.SpacedTexts.{space_chars}
 use Rattle.xpath_eval.proofs.words.is_word.Goals as goal
 
 pub returns-then-not-is_empty-clause-word : goal.returns-then-not-is_empty-clause-word

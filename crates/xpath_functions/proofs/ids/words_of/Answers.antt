@@ -1,5 +1,5 @@
 use Rattle.std.specs.Str.{chars}
-use Rattle.xpath_functions.proofs.Words.{same_words}
+use Rattle.xpath_values.proofs.Words.{same_words}
 use Rattle.xpath_functions.proofs.ids.words_of.Goals as goal
 
 pub returns : goal.returns
