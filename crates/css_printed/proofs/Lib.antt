@@ -32,6 +32,8 @@ pub mod PathsKept
 pub mod Pieces
 pub mod PlainNames
 pub mod PrintedAt
+mod PrintedPieces
+pub mod PrintedUtf8
 pub mod ReadBack
 pub mod Readings
 pub mod ReadsAttributes
@@ -57,7 +59,6 @@ pub mod SpellTests
 pub mod SpellValues
 pub mod Spelling
 pub mod TemplateTerms
-pub mod Swaps
 pub mod Theorem
 pub mod Typed
 pub mod TypesChoices

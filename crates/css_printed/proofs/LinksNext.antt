@@ -19,7 +19,7 @@ use Rattle.xpath_parser.specs.declared.expression.Expr.{Expr}
 use Rattle.xpath_parser.specs.Denote.{has, keeps, kept, kept_from, denote, walk_of}
 use Rattle.xpath_parser.proofs.Equations as eq
 use Rattle.css_printed.specs.inner.Predicates.{step, number}
-use Rattle.css_printed.proofs.Swaps.{flip, swap}
+use Rattle.text_base.proofs.Swaps.{flip, swap}
 use Rattle.css_printed.proofs.Links.{axis_later, above_zero}
 use Rattle.css_printed.proofs.PathsKept.{Keep}
 

@@ -27,7 +27,7 @@ use Rattle.xpath_parser.proofs.Equations.{at_made}
 use Rattle.xpath_parser.specs.declared.expression.Start.TheVariants.{Here}
 use Rattle.css_printed.specs.inner.Predicates.{step, path, number, literal, plain_attribute, lang_begins, lang_predicate}
 use Rattle.text_base.proofs.Lists.{filter_twice}
-use Rattle.css_printed.proofs.Swaps.{flip, swap}
+use Rattle.text_base.proofs.Swaps.{flip, swap}
 use Rattle.css_printed.proofs.PathsKept.{Is, Keep, keep_one}
 use Rattle.css_printed.proofs.MeansLower.{translated_lower}
 use Rattle.css_printed.proofs.MeansValues.{Value_at, is_truth, is_nodes, any_kept, at_call_one, at_call_two, at_call_three}

@@ -24,7 +24,7 @@ use Rattle.xpath_parser.specs.Denote.{has, walk_of}
 use Rattle.css_printed.specs.inner.LinkPredicates.{axis_of, link_test, link_brackets, next_brackets}
 use Rattle.css_printed.specs.inner.Predicates.{step, node_test, name_brackets, elements}
 use Rattle.css_printed.specs.inner.TestPredicates.{simple_predicates}
-use Rattle.css_printed.proofs.Swaps.{swap}
+use Rattle.text_base.proofs.Swaps.{swap}
 use Rattle.css_printed.proofs.Links.{near, principal_by, axis_near, axis_descendant, axis_child, axis_later}
 use Rattle.css_printed.proofs.PathsKept.{Is, Keep, keep_none, keep_one, keep_then, step_has}
 use Rattle.css_printed.proofs.LinksNext.{next_has}

@@ -24,7 +24,7 @@ use Rattle.xpath_parser.specs.declared.expression.Func.TheVariants as f
 use Rattle.xpath_parser.specs.Conversions.{is_any, text_of_rows, truth_of}
 use Rattle.xpath_parser.specs.Denote.{has, denote}
 use Rattle.css_printed.specs.inner.Predicates.{path, literal, both, not_one, self_named, one_of, control, plain_attribute, equals, html_predicate, link_predicate, checked_predicate}
-use Rattle.css_printed.proofs.Swaps.{flip}
+use Rattle.text_base.proofs.Swaps.{flip}
 use Rattle.css_printed.proofs.PathsKept.{Is}
 use Rattle.css_printed.proofs.MeansValues as values
 use Rattle.css_printed.proofs.MeansValues.{Value_at, is_truth, is_never, any_kept, at_not, at_both, at_either, at_or, at_and, at_call_two, at_bare_step, Truths_at}

@@ -22,7 +22,7 @@ use Rattle.css_meaning.proofs.ListTests as lists
 use Rattle.text_base.proofs.PartLemmas.{same_means}
 use Rattle.xpath_values.specs.declared.value.Value.TheVariants.{Nodes}
 use Rattle.css_printed.specs.inner.Predicates.{siblings, nth_predicates}
-use Rattle.css_printed.proofs.Swaps.{flip}
+use Rattle.text_base.proofs.Swaps.{flip}
 use Rattle.css_printed.proofs.Links.{is_no_attribute}
 use Rattle.css_printed.proofs.PathsKept.{Keep, keep_both, keep_same}
 use Rattle.css_printed.proofs.MeansValues.{Value_at, at_bare_step}

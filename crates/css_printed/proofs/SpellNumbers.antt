@@ -8,7 +8,7 @@ use Rattle.std.proofs.lemmas.Bool.Decides.{nat_tests}
 use Rattle.xpath_lexer.specs.declared.token.XKind.TheVariants as k
 use Rattle.text_base.specs.Names.{is_name_start, is_name_byte}
 use Rattle.text_base.specs.Text.{is_digit, digits_value}
-use Rattle.css_selectors.proofs.Decimals.{Digits, decimal_digits}
+use Rattle.text_base.proofs.Decimals.{Digits, decimal_digits}
 use Rattle.xpath_lexer.specs.Tokens.{Text, lexeme, span, with_fraction, ends_with, token, next}
 use Rattle.xpath_parser.specs.declared.term.Term.TheVariants as t
 use Rattle.xpath_parser.specs.Terms.{terms_after, number_term, is_operand}

@@ -11,6 +11,7 @@ mod positions;
 mod printing;
 mod pseudo;
 mod pushing;
+mod relatives;
 mod simples;
 mod steps;
 mod texts;

@@ -9,9 +9,9 @@ ghost use Rattle.css_translate.specs.inner.Pieces.{further_text};
 ghost use Rattle.css_translate.specs.inner.Read.{IsReadPart, IsReadSelector};
 ghost use Rattle.xpath_lexer.specs.Places.{most_xpath};
 
-use crate::choices::push_part;
 use crate::names::push_attribute;
 use crate::pushing::push;
+use crate::relatives::push_part;
 use crate::texts::read;
 use css_selectors::{Dialect, Part, Selector, SelectorList, Tail};
 use std::alloc::Global;

@@ -10,7 +10,7 @@ use Rattle.css_translate.specs.inner.Read.{IsReadCompound, IsReadPart, IsReadRel
 use Rattle.css_translate.proofs.Pushes.{same_piece}
 use Rattle.css_translate.proofs.Said as said
 use Rattle.css_translate.proofs.TextLemmas.{grown}
-use Rattle.css_translate.proofs.choices.+printing.Goals as goal
+use Rattle.css_translate.proofs.+printing.Goals as goal
 
 -- one alternative more of a loop
 grows : {A : Type 0} (text : A → List ℕ) (was mid now : List ℕ) (b : Bool) (xs : List A) (y : A)
@@ -21,8 +21,8 @@ grows text was mid now b xs y h first k =
     ∙ append_assoc was (choice (map text xs)) (or_text (said.is_nil xs) ++ text y)
     ∙ ap (λ s. was ++ s) (sym (said.choice_more text xs y))
 
-pub push_choice-loop-compound-preserved : goal.push_choice-loop-compound-preserved
-push_choice-loop-compound-preserved t c =
+pub choices::push_choice-loop-compound-preserved : goal.choices::push_choice-loop-compound-preserved
+choices::push_choice-loop-compound-preserved t c =
     let xs = c.args.compounds.now in
     let i = c.loop-compound.compound-index in
     let x = c.compound-item.result in
@@ -35,8 +35,8 @@ push_choice-loop-compound-preserved t c =
       texts = subst (AllByRecursion IsReadCompound) (sym more) (grown IsReadCompound (take i xs) x c.loop-compound.invariant.texts c.in_ok-push_operand.ensures.texts);
     }
 
-pub push_relatives-loop-relative-preserved : goal.push_relatives-loop-relative-preserved
-push_relatives-loop-relative-preserved t c =
+pub relatives::push_relatives-loop-relative-preserved : goal.relatives::push_relatives-loop-relative-preserved
+relatives::push_relatives-loop-relative-preserved t c =
     let xs = c.args.relatives.now in
     let i = c.loop-relative.relative-index in
     let x = c.relative-item.result in
@@ -49,8 +49,8 @@ push_relatives-loop-relative-preserved t c =
       texts = subst (AllByRecursion IsReadRelative) (sym more) (grown IsReadRelative (take i xs) x c.loop-relative.invariant.texts c.in_ok-push_alternative.ensures.texts);
     }
 
-pub push_path-loop-part-preserved : goal.push_path-loop-part-preserved
-push_path-loop-part-preserved t c =
+pub relatives::push_path-loop-part-preserved : goal.relatives::push_path-loop-part-preserved
+relatives::push_path-loop-part-preserved t c =
     let xs = c.args.parts.now in
     let i = c.loop-part.part-index in
     let x = c.part-item.result in
@@ -67,7 +67,7 @@ push_path-loop-part-preserved t c =
       texts = subst (AllByRecursion IsReadPart) (sym more) (grown IsReadPart (take i xs) x c.loop-part.invariant.texts c.in_ok-push_part.ensures.texts);
     }
 
-pub push_brackets-returns-in-Nth-clause-text : goal.push_brackets-returns-in-Nth-clause-text
-push_brackets-returns-in-Nth-clause-text t c =
+pub choices::push_brackets-returns-in-Nth-clause-text : goal.choices::push_brackets-returns-in-Nth-clause-text
+choices::push_brackets-returns-in-Nth-clause-text t c =
     same_piece _ _ _ _ _
     (sym (ap (λ u. (test_said c.args.dialect u c.args.around.now).brackets) c.in-Nth.is ∙ said.brackets_nth c.args.dialect _ _ _ c.args.around.now)) c.push_position.ensures
