@@ -1,11 +1,12 @@
 -- How many elements stand beside an element on the axes of siblings.
-use Rattle.std.proofs.Common.{◌≡◌, ℕ, ◌+◌, ◌-◌, ◌<◌, length, Bool, true, false, ◌&&◌, eqb, nat_lt, List, ◌++◌, refl, sym, ◌∙◌, ap, arith, inl, inr, lt-ltb}
+use Rattle.std.proofs.Common.{◌≡◌, ℕ, ◌+◌, ◌-◌, ◌<◌, length, Bool, true, false, ◌&&◌, eqb, nat_lt, List, ◌++◌, refl, sym, ◌∙◌, ap, arith, lt-ltb}
 use Rattle.std.specs.Prelude.{filter, not}
 use Rattle.std.specs.List.{range_with_len}
-use Rattle.std.proofs.lemmas.Bool.{and_parts, and_left, and_right, cases_eq, eq-eqb, ne_eqb, both_ways, le-ltb}
+use Rattle.std.proofs.lemmas.Bool.{and_parts, and_left, and_right, both_ways, le-ltb}
 use Rattle.std.specs.Str.{bytes_eq}
 use Rattle.std.proofs.lemmas.Slice.Eq.{bytes_eq-Decides}
 use Rattle.std.proofs.lemmas.List.{length-append, length-reverse, append-nil}
+use Rattle.text_base.proofs.Swaps.{flip}
 use Rattle.doc_model.specs.declared.Axis.TheVariants as axis
 use Rattle.doc_model.specs.declared.Axis.{Axis}
 use Rattle.doc_model.specs.declared.Kind.{Kind}
@@ -19,9 +20,6 @@ use Rattle.step_index.proofs.Counted.{one_child, some_element}
 use Rattle.doc_model.proofs.Runs.{same_filter_below}
 use Rattle.step_index.specs.Named.{is_named}
 use Rattle.step_index.specs.Siblings.{children_before}
-
-eqb_comm : (a b : ℕ) → eqb a b ≡ eqb b a
-eqb_comm a b = elim (cases_eq a b) [ inl e ↦ eq-eqb a b e ∙ sym (eq-eqb b a (sym e)) | inr e ↦ ne_eqb a b e ∙ sym (ne_eqb b a (λ f. e (sym f))) ]
 
 no_attribute : (k : Kind) → is_element_kind k ≡ true → is_attribute_kind k ≡ false
 no_attribute Element h = refl
@@ -47,7 +45,7 @@ sibling doc x z e b some h only s =
     ∙ ap (λ v. ((nat_lt 0 z && (not v && (not az && pz))) && b) && e z) (no_attribute (row doc x).kind h)
     ∙ ap (λ v. ((nat_lt 0 z && (not az && pz)) && v) && e z) s
     ∙ shape (nat_lt 0 z) az pz (e z) (λ k. no_attribute (row doc z).kind (only k))
-    ∙ ap (λ v. e z && (nat_lt 0 z && v)) (eqb_comm (row doc x).parent (row doc z).parent)
+    ∙ ap (λ v. e z && (nat_lt 0 z && v)) (flip (row doc x).parent (row doc z).parent)
 
 -- those before it
 pub preceding : (doc : Document) (x : ℕ) (a : Axis) (t : NodeTest) → IsDocument doc → x < length doc → is_element doc x ≡ true → a ≡ axis.PrecedingSibling

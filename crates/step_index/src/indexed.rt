@@ -11,11 +11,12 @@ ghost use Rattle.step_index.specs.Named.{is_named, named, GrowsByFront};
 ghost use Rattle.step_index.specs.Named as spec;
 ghost use Rattle.step_index.specs.inner.Alike.{HasAlike};
 ghost use Rattle.step_index.specs.Siblings.{HasChildren, children_before};
-ghost use Rattle.step_index.specs.inner.Tables.{HasNames, HasIds, Before};
+ghost use Rattle.step_index.specs.inner.Tables.{HasNames, HasIds};
 
 use crate::alike::Alike;
 use crate::children::Children;
 use crate::ids::{Ids, walk_id};
+use crate::look_ups::{count_before, looked_up, number_before, row_before};
 use crate::names::Names;
 use crate::steps::Steps;
 use doc_model::{
@@ -215,12 +216,66 @@ impl<T: Tree> Indexed<T> {
         self.alike.after(x)
     }
 
+    /// Whether so much is below `x` that it is looked up, and not walked.
+    fn is_wide(&self, x: u32) -> bool
+        requires { x < length (T.document self.now.tree) }
+    {
+        self.tree.end(x) - x > 64
+    }
+
+    /// How many elements of this name are below `x`.
+    fn count_below(&self, x: u32, name: &str) -> u32
+        requires { x < length (T.document self.now.tree) }
+        ensures { result ≡ length (axis_list (T.document self.now.tree) x Axis.Descendant (NodeTest.Name (chars name.now))) }
+    {
+        let list = self.names.under(name);
+        let end = self.tree.end(x);
+        let to = number_before(list, end);
+        let from = number_before(list, x + 1);
+        to - from
+    }
+
+    /// How many elements of this name follow `x`: those that do not stand before its end.
+    fn count_following(&self, x: u32, name: &str) -> u32
+        requires { x < length (T.document self.now.tree) }
+        ensures { result ≡ length (axis_list (T.document self.now.tree) x Axis.Following (NodeTest.Name (chars name.now))) }
+    {
+        let list = self.names.under(name);
+        let end = self.tree.end(x);
+        let len = self.tree.len();
+        let all = number_before(list, len);
+        let before = number_before(list, end);
+        all - before
+    }
+
+    /// How many elements of this name precede `x`: those before it that it is not below.
+    fn count_preceding(&self, x: u32, test: &NodeTest, name: &str) -> u32
+        requires row { x < length (T.document self.now.tree) }
+        requires named { test.now ≡ NodeTest.Name (chars name.now) }
+        ensures { result ≡ length (axis_list (T.document self.now.tree) x Axis.Preceding test.now) }
+    {
+        let list = self.names.under(name);
+        let before = number_before(list, x);
+        let above = walk_count(&self.tree, x, Axis::Ancestor, test);
+        before - above
+    }
+
     /// How many rows are on the axis of `x` that have the name.
     fn count_named(&self, x: u32, axis: Axis, test: &NodeTest, name: &str) -> u32
         requires row { x < length (T.document self.now.tree) }
         requires named { test.now ≡ NodeTest.Name (chars name.now) }
         ensures { result ≡ length (axis_list (T.document self.now.tree) x axis test.now) }
     {
+        match axis {
+            Axis::Descendant => {
+                if self.is_wide(x) {
+                    return self.count_below(x, name);
+                }
+            }
+            Axis::Following => return self.count_following(x, name),
+            Axis::Preceding => return self.count_preceding(x, test, name),
+            _ => {}
+        }
         if is_named(&self.tree, x, name) {
             match axis {
                 Axis::PrecedingSibling => return self.alike.before(x),
@@ -237,6 +292,15 @@ impl<T: Tree> Indexed<T> {
         requires named { test.now ≡ NodeTest.Name (chars name.now) }
         ensures { result ≡ nat_lt 0 (length (axis_list (T.document self.now.tree) x axis test.now)) }
     {
+        match axis {
+            Axis::Descendant => {
+                if self.is_wide(x) {
+                    return self.count_below(x, name) > 0;
+                }
+            }
+            Axis::Following => return self.count_following(x, name) > 0,
+            _ => {}
+        }
         if is_named(&self.tree, x, name) {
             match axis {
                 Axis::PrecedingSibling | Axis::FollowingSibling => {
@@ -247,52 +311,6 @@ impl<T: Tree> Indexed<T> {
         }
         walk_any(&self.tree, x, axis, test)
     }
-}
-
-/// What stands at a place of the list.
-#[tactic(auto, using(crate::proofs::Places::none_past))]
-fn at(rows: &[u32], k: usize) -> Option<u32>
-    ensures { result ≡ slice_get rows.now k }
-{
-    if k < rows.len() { Some(rows[k]) } else { None }
-}
-
-/// What stands at a place of the list. This is one step.
-fn looked_up<L: Ledger>(list: &[u32], k: u32, steps: &mut Steps<L>) -> Option<u32>
-    ensures row { result ≡ slice_get list.now k }
-    ensures one { steps.new ≡ steps.old + 1 }
-{
-    steps.tick();
-    at(list, k as usize)
-}
-
-/// The row at place `k`, from 0, of the list's rows before row `end`.
-fn row_before<L: Ledger>(list: &[u32], end: u32, k: u32, steps: &mut Steps<L>) -> Option<u32>
-    ensures row { Before list.now end (λ rows. result ≡ slice_get rows k) }
-    ensures one { steps.new ≡ steps.old + 1 }
-{
-    match looked_up(list, k, steps) {
-        Some(y) => { if y < end { Some(y) } else { None } }
-        None => None,
-    }
-}
-
-/// How many of the list's rows stand before row `end`, by halving.
-fn count_before<L: Ledger>(list: &[u32], end: u32, steps: &mut Steps<L>) -> u32
-    ensures count { Before list.now end (λ rows. result ≡ length rows) }
-    ensures rose { steps.old ≤ steps.new }
-    ensures cost { 2 ^ (steps.new - steps.old) ≤ 2 * end + 1 }
-{
-    let mut low = 0;
-    let mut high = end;
-    while low < high {
-        let middle = low + (high - low) / 2;
-        match row_before(list, end, middle, steps) {
-            Some(_) => low = middle + 1,
-            None => high = middle,
-        }
-    }
-    low
 }
 
 /// Whether the row is an element of this name.
@@ -329,6 +347,9 @@ impl<T: Tree> Axes for Indexed<T> {
 
     fn axis_count(&self, x: u32, axis: Axis, test: &NodeTest) -> u32 {
         if let NodeTest::AnyName = test {
+            if let Axis::Child = axis {
+                return self.children.below(x);
+            }
             if is_element(&self.tree, x) {
                 match axis {
                     Axis::PrecedingSibling => return self.children.before(x),
@@ -348,6 +369,11 @@ impl<T: Tree> Axes for Indexed<T> {
     }
 
     fn axis_any(&self, x: u32, axis: Axis, test: &NodeTest) -> bool {
+        if let NodeTest::AnyName = test {
+            if let Axis::Child = axis {
+                return self.children.below(x) > 0;
+            }
+        }
         if let NodeTest::Name(name) = test {
             return self.has_named(x, axis, test, name.as_str());
         }

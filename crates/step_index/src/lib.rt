@@ -5,6 +5,7 @@ mod alike;
 mod children;
 mod ids;
 mod indexed;
+mod look_ups;
 mod names;
 mod steps;
 

@@ -1,6 +1,6 @@
 use Rattle.std.proofs.Common.{◌≤◌, ◌+◌, ◌-◌, ◌*◌, ◌^◌, length}
 use Rattle.step_index.specs.inner.Tables.{Before}
-use Rattle.step_index.proofs.indexed.count_before.Given as goal
+use Rattle.step_index.proofs.look_ups.count_before.Given as goal
 
 abbrev pub invariant-loop-low : goal.invariant-loop-low
 invariant-loop-low g l = record {

@@ -2,7 +2,7 @@ use Rattle.std.proofs.Common.{◌+◌, ◌-◌, ◌/◌, ◌^◌, arith, sym}
 use Rattle.std.specs.Prelude.{filter}
 use Rattle.std.specs.List.{range_with_len}
 use Rattle.step_index.proofs.Places as places
-use Rattle.step_index.proofs.indexed.count_before.Goals as goal
+use Rattle.step_index.proofs.look_ups.count_before.Goals as goal
 
 pub loop-low-init : goal.loop-low-init
 loop-low-init g c = record {

@@ -1,7 +1,7 @@
 use Rattle.std.proofs.Common.{sym, ◌∙◌, ap}
 use Rattle.std.specs.Prelude.{slice_get}
 use Rattle.step_index.proofs.Places as places
-use Rattle.step_index.proofs.indexed.row_before.Goals as goal
+use Rattle.step_index.proofs.look_ups.row_before.Goals as goal
 
 pub returns-then-y-end-clause-row : goal.returns-then-y-end-clause-row
 returns-then-y-end-clause-row g c = λ p n le is.
