@@ -1,0 +1,5 @@
+pub mod Beginnings
+pub mod Laws
+pub mod SelectorPlaces
+pub mod XPathPlaces
+pub mod inner
