@@ -12,7 +12,7 @@ use Rattle.extract_call.specs.Words.{Command, css, run, bulk, clean, IsWords, Is
 use Rattle.extract_call.specs.Laws.{WordsLaw}
 use Rattle.extract_call.proofs.Counts.{count_read}
 
-dialect_read : (w : List ℕ) (d : Dialect) → dialect_of w ≡ Some d → w ≡ dialect_word d
+pub dialect_read : (w : List ℕ) (d : Dialect) → dialect_of w ≡ Some d → w ≡ dialect_word d
 unfolding dialect_of
 dialect_read w d h = by_tests (bytes_eq w (codes "generic")) (bytes_eq w (codes "html")) refl refl h
   where
@@ -22,7 +22,7 @@ dialect_read w d h = by_tests (bytes_eq w (codes "generic")) (bytes_eq w (codes 
     by_tests false true p q e = (bytes_eq-Decides w (codes "html")).0 q ∙ ap dialect_word (let same : Html ≡ d = (let x = e in cc) in same)
     by_tests false false p q e = let x = e in cc
 
-word_dialect : (d : Dialect) → dialect_of (dialect_word d) ≡ Some d
+pub word_dialect : (d : Dialect) → dialect_of (dialect_word d) ≡ Some d
 unfolding dialect_of
 word_dialect Generic = refl
 word_dialect Html = refl

@@ -52,7 +52,7 @@ module _ (below : Below) where
       same_fault f g same.0 same.1
 
   -- a page is refused for one reason
-  one_cause : (bytes : List ℕ) (f g : PageFault) → IsPageRefused bytes f → IsPageRefused bytes g → f ≡ g
+  pub one_cause : (bytes : List ℕ) (f g : PageFault) → IsPageRefused bytes f → IsPageRefused bytes g → f ≡ g
   one_cause bytes f g (inl h) (inl k) = h.is ∙ sym k.is
   one_cause bytes f g (inl h) (inr (inl k)) = let l : most_page < length bytes = h.long in let s : length bytes ≤ most_page = k.short in absurd (omega arith)
   one_cause bytes f g (inl h) (inr (inr k)) = let l : most_page < length bytes = h.long in let s : length bytes ≤ most_page = k.short in absurd (omega arith)
@@ -64,7 +64,7 @@ module _ (below : Below) where
   one_cause bytes f g (inr (inr h)) (inr (inr k)) = tree_faults bytes f g h k
 
   -- a page that is refused has no values
-  refused_or_read : (shows : List ℕ → Document → Answer → Type 0) (name bytes : List ℕ) (f : PageFault) (a : Answer) → IsPageRefused bytes f → IsShownLine shows name bytes a → ⊥
+  pub refused_or_read : (shows : List ℕ → Document → Answer → Type 0) (name bytes : List ℕ) (f : PageFault) (a : Answer) → IsPageRefused bytes f → IsShownLine shows name bytes a → ⊥
   refused_or_read shows name bytes f a (inl h) k = let l : most_page < length bytes = h.long in let s : length bytes ≤ most_page = k.short in omega arith
   refused_or_read shows name bytes f a (inr (inl h)) k = let x = h.is in let y = k.decodes in cc
   refused_or_read shows name bytes f a (inr (inr h)) k =

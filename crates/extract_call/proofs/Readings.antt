@@ -16,7 +16,7 @@ use Rattle.std.proofs.lemmas.List.Elements.{All-weaker, recursion_from_All}
 use Rattle.css_selectors.specs.WellMade.{WellMade, IsSelector}
 
 -- the text is no list, or its XPath is too long
-split : (d : Dialect) (text : List ℕ) (why : SelectorFault) → IsCssFault d text why → ((why ≡ fault.XPathLong) × IsXPathLong d text) ⊎ IsFault text why
+pub split : (d : Dialect) (text : List ℕ) (why : SelectorFault) → IsCssFault d text why → ((why ≡ fault.XPathLong) × IsXPathLong d text) ⊎ IsFault text why
 split d text fault.XPathLong h = inl (refl, h)
 split d text _ h = inr h
 

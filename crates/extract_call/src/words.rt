@@ -22,7 +22,7 @@ pub enum Form<'w> {
 
 /// The dialect that the word names.
 #[tactic(auto, unfolding(crate::specs::Words::dialect_of))]
-fn dialect_of(word: &str) -> Option<Dialect>
+pub fn dialect_of(word: &str) -> Option<Dialect>
     ensures { result ≡ dialect_of word.now }
 {
     if word == "generic" {

@@ -31,7 +31,11 @@ pub(crate) fn shown(alloc: Global, value: &Value) -> Result<String, NoMemory> {
 }
 
 /// What an XPath text gives from the root node.
-fn from_root<S: Axes>(alloc: Global, source: &S, text: &str) -> Result<String, NoMemory> {
+pub(crate) fn from_root<S: Axes>(
+    alloc: Global,
+    source: &S,
+    text: &str,
+) -> Result<String, NoMemory> {
     let Ok(typed) = parse_xpath(alloc, text) else {
         return Ok(String::from_str(alloc, "refused")?);
     };

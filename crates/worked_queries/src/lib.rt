@@ -12,10 +12,14 @@ mod functions;
 #[cfg(test)]
 mod lines;
 #[cfg(test)]
+mod refusals;
+#[cfg(test)]
 mod scripts;
 #[cfg(test)]
 mod stored;
 #[cfg(test)]
 mod tokens;
+#[cfg(test)]
+mod trees;
 #[cfg(test)]
 mod values;
