@@ -6,7 +6,7 @@ use Rattle.css_selectors.specs.declared.selector.Dialect.TheVariants.{Html}
 use Rattle.query_script.specs.Cuts.{fields_of}
 use Rattle.query_script.specs.Fields.{IsScriptFault}
 use Rattle.page_records.specs.Braces.{opens, stands}
-use Rattle.extract_call.specs.inner.Below.{Below}
+use Rattle.extract_call.specs.Below.{Below}
 use Rattle.extract_call.specs.Bulk.{bulk_script}
 use Rattle.extract_call.specs.Laws.{BulkLaw}
 

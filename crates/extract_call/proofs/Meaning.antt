@@ -5,7 +5,7 @@ use Rattle.std.specs.List.{AllByRecursion}
 use Rattle.std.specs.Str.{IsUtf8}
 use Rattle.std.specs.declared.alloc.Global.{Global}
 use Rattle.css_selectors.specs.declared.selector.Dialect.{Dialect}
-use Rattle.extract_call.specs.inner.Below.{Below}
+use Rattle.extract_call.specs.Below.{Below}
 use Rattle.extract_call.specs.Bulk.{bulk_script}
 use Rattle.extract_call.specs.Selectors.{IsSelectorOf, IsKept}
 use Rattle.extract_call.specs.Words.{Command, css, run, bulk, clean, IsWords, read, dialect_word}

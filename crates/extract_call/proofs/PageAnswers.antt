@@ -7,7 +7,7 @@ use Rattle.io_edges.specs.Pages.{page, Has, IsTooLong}
 use Rattle.io_edges.specs.Sink.{grown, TakesPart}
 use Rattle.json_lines.specs.Pages.{refused_text}
 use Rattle.test_registry.specs.Names.{Known}
-use Rattle.extract_call.specs.inner.Below.{Below}
+use Rattle.extract_call.specs.Below.{Below}
 use Rattle.extract_call.specs.Answers.{Answer, line_bytes}
 use Rattle.extract_call.specs.inner.OnePage.{TakesLine, TakesLinePart}
 use Rattle.extract_call.specs.PageLines.{most_page, too_long, IsPageLine, MakesLines}

@@ -14,7 +14,7 @@ use Rattle.page_records.specs.Lines.{line_text, holds_refusal}
 use Rattle.page_records.specs.Ordered.{IsOrderedEntry}
 use Rattle.page_records.specs.Records.{IsEntryValue}
 use Rattle.markup_out.specs.Markup.{canonical}
-use Rattle.extract_call.specs.inner.Below.{Below}
+use Rattle.extract_call.specs.Below.{Below}
 use Rattle.extract_call.specs.Answers.{Answer}
 use Rattle.extract_call.specs.PageLines.{most_page, too_long, AreValues, IsPageLine, IsValuesLine, IsMarkupLine, MakesLines}
 use Rattle.extract_call.proofs.Readings.{within_or_past}

@@ -18,7 +18,7 @@ use Rattle.extract_call.specs.declared.asked.Asked.{Asked}
 use Rattle.extract_call.specs.declared.asked.Asked.TheVariants.{Values, Markup}
 use Rattle.extract_call.specs.Answers.{Answer, answer_of}
 use Rattle.extract_call.specs.inner.Asked.{shown_by}
-use Rattle.extract_call.specs.inner.Below.{Below}
+use Rattle.extract_call.specs.Below.{Below}
 use Rattle.extract_call.specs.inner.OnePage.{IsTextLine}
 use Rattle.extract_call.specs.PageLines.{most_page, too_long, IsNoTree, IsPageRefused, AreValues, IsShownLine, IsValuesLine, IsMarkupLine, IsPageLine, MakesLines}
 

@@ -20,7 +20,7 @@ use Rattle.page_records.specs.Scripts.{IsRecordScript}
 use Rattle.extract_call.specs.Answers.{Answer}
 use Rattle.extract_call.specs.Bulk.{bulk_script, bulk_text}
 use Rattle.extract_call.specs.FieldLines.{AreFieldValues, IsFieldsLine}
-use Rattle.extract_call.specs.inner.Below.{Below}
+use Rattle.extract_call.specs.Below.{Below}
 use Rattle.extract_call.specs.Laws.{PlainLines, PlainRefusals, PlainBulk}
 use Rattle.extract_call.specs.PageLines.{AreValues, IsValuesLine, IsPageLine, MakesLines}
 use Rattle.extract_call.specs.Plans.{IsScriptRefused, IsByScript, IsBulkLine}

@@ -11,7 +11,7 @@ use Rattle.json_lines.specs.Lines.{reason_text}
 use Rattle.page_records.specs.declared.script.Entry.{Entry}
 use Rattle.page_records.specs.declared.script.Entry.TheVariants as entry
 use Rattle.page_records.specs.Scripts.{IsRecordScript, IsRecordFault}
-use Rattle.extract_call.specs.inner.Below.{Below}
+use Rattle.extract_call.specs.Below.{Below}
 use Rattle.extract_call.specs.Bulk.{bulk_script, bulk_text}
 use Rattle.extract_call.specs.Laws.{SomePlan}
 use Rattle.extract_call.specs.Plans.{Plan, alone, over, IsPlan}

@@ -20,7 +20,7 @@ use Rattle.page_records.specs.Scripts.{IsRecordScript, IsRecordFault}
 use Rattle.xpath_lexer.specs.Places.{most_xpath}
 use Rattle.extract_call.specs.declared.answers.Line.{Line}
 use Rattle.extract_call.specs.Answers.{Answer, answer_of}
-use Rattle.extract_call.specs.inner.Below.{Below}
+use Rattle.extract_call.specs.Below.{Below}
 use Rattle.extract_call.specs.Bulk.{bulk_script, bulk_text}
 use Rattle.extract_call.specs.CssLines.{IsCssLine, IsListLine, IsRefusalLine}
 use Rattle.extract_call.specs.Laws.{OnePlan}

@@ -7,7 +7,7 @@ use Rattle.text_base.specs.declared.reasons.SelectorFault.TheVariants as fault
 use Rattle.css_selectors.specs.declared.selector.Dialect.{Dialect}
 use Rattle.css_selectors.specs.declared.selector.SelectorList.{SelectorList}
 use Rattle.css_parser.specs.Selecting.{Accepts, IsFault}
-use Rattle.extract_call.specs.inner.Below.{Below}
+use Rattle.extract_call.specs.Below.{Below}
 use Rattle.query_script.specs.Queries.{IsCssFault, IsXPathLong}
 use Rattle.extract_call.specs.Laws.{OneReading}
 use Rattle.json_lines.specs.Lines.{IsSmall}

@@ -9,7 +9,7 @@ use Rattle.page_records.specs.declared.script.Entry.{Entry}
 use Rattle.page_records.specs.Lines.{HaveForms}
 use Rattle.page_records.specs.Records.{EntryTask, IsEntryTask, EntryAsks, entry_outcome}
 use Rattle.extract_call.specs.PageLines.{AreValues}
-use Rattle.extract_call.specs.inner.Below.{Below}
+use Rattle.extract_call.specs.Below.{Below}
 use Rattle.extract_call.specs.inner.Tasks.{AreTasks}
 
 module _ (tests : Known) where

@@ -1,4 +1,5 @@
 pub mod Answers
+pub mod Below
 pub mod Bulk
 pub mod CssLines
 pub mod FieldLines

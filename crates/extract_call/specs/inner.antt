@@ -1,5 +1,4 @@
 -- What private functions and proofs say. No contract of a public call cites it.
 pub mod Asked
-pub mod Below
 pub mod OnePage
 pub mod Tasks

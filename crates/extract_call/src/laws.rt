@@ -1,5 +1,5 @@
 //! Laws of the definitions that the contracts cite.
-ghost use Rattle.extract_call.specs.inner.Below.{Below};
+ghost use Rattle.extract_call.specs.Below.{Below};
 ghost use Rattle.extract_call.specs.Laws.{BulkLaw, OnePlan, PlainBulk, PlainLines, PlainRefusals, ReadingLaw, SomePlan, WordsLaw};
 
 use css_parser::one_list_or_fault;

@@ -14,7 +14,9 @@ mod words;
 mod writing;
 
 pub use answers::Line;
-pub use laws::{bulk_script_reads, one_reading, plain_scripts, the_plan, words_of_commands};
+pub use laws::{
+    bulk_script_reads, laws_below, one_reading, plain_scripts, the_plan, words_of_commands,
+};
 pub use status::Status;
 pub use top::{extract, extract_with};
 pub use words::dialect_of;

@@ -4,11 +4,11 @@ ghost use Rattle.extract_call.specs.Plans.{ForPlan};
 ghost use Rattle.extract_call.specs.Runs.{pages_at, sink_at, Run};
 ghost use Rattle.extract_call.specs.Words.{read};
 ghost use Rattle.test_registry.specs.View.{known};
-ghost use Rattle.program_tests.specs.Stored as stored;
+ghost use Rattle.programs.specs.Stored as stored;
 
 use extract_call::{Status, extract_with};
 use io_edges::{Pages, Sink};
-use program_tests::{NEAR, Test, program_tests};
+use programs::{NEAR, Test, program_tests};
 use std::alloc::Global;
 use test_registry::{Tests, ends_with, has_word, near, same_folded};
 use text_base::NoMemory;

@@ -9,43 +9,19 @@ mod stored;
 use crate::stored::why_words;
 use extract_call::Status;
 use io_edges::{FilePages, StdoutSink};
-use std::env;
-use std::io::ErrorKind;
+use programs::words_of;
 use std::process::ExitCode;
-
-/// The words after the program's name, or the status where no memory was found for them. Where a
-/// word is not UTF-8, there are none.
-fn words_of(rt: &HostRuntime) -> Result<Vec<String>, Status> {
-    let mut words = Vec::new(rt.alloc());
-    match env::args(rt) {
-        Ok(args) => {
-            for word in args.skip(1) {
-                if words.push(word).is_err() {
-                    return Err(Status::Memory);
-                }
-            }
-        }
-        Err(error) => {
-            if error.kind() == ErrorKind::OutOfMemory {
-                return Err(Status::Memory);
-            }
-        }
-    }
-    Ok(words)
-}
 
 /// Answers the program's words on files and standard output.
 fn status_of(rt: &HostRuntime) -> Status {
-    match words_of(rt) {
-        Ok(words) => {
-            let mut pages = FilePages::new(rt);
-            let mut sink = StdoutSink::new(rt);
-            match why_words(rt.alloc(), words.as_slice(), &mut pages, &mut sink) {
-                Ok(status) => status,
-                Err(_) => Status::Memory,
-            }
-        }
-        Err(status) => status,
+    let Ok(words) = words_of(rt) else {
+        return Status::Memory;
+    };
+    let mut pages = FilePages::new(rt);
+    let mut sink = StdoutSink::new(rt);
+    match why_words(rt.alloc(), words.as_slice(), &mut pages, &mut sink) {
+        Ok(status) => status,
+        Err(_) => Status::Memory,
     }
 }
 

@@ -1,6 +1,6 @@
 -- What the laws of the crates below say.
 use Rattle.xpath_parser.specs.Laws as expressions
-use Rattle.extract_call.specs.inner.Below as lines
+use Rattle.extract_call.specs.Below as lines
 use Rattle.refusal_places.specs.Laws as places
 
 pub record Below : Type 0 where

@@ -1,6 +1,6 @@
 //! The tests under their names.
 ghost use Rattle.std.specs.Prelude.{◌≡◌, Bool, IfOk};
-ghost use Rattle.program_tests.specs.Stored as stored;
+ghost use Rattle.programs.specs.Stored as stored;
 ghost use Rattle.test_registry.specs.Meets.{meets};
 ghost use Rattle.test_registry.specs.View.{known};
 
